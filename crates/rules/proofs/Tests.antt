@@ -1,0 +1,29 @@
+-- Tests joined by "and", read and made; order by a test.
+use mathlib.Core.Path.{_≡_, refl}
+use mathlib.Core.Logic.{_⊎_, inl, inr}
+use Prim.Native.Nat.{ℕ, _≤_, _<_}
+use native.Mathlib.Omega.{arith}
+use mathlib.Core.Bool.{Bool, true, false, _&&_}
+use lib.Dec.{leb, ltb}
+use borrow.Author.Tests.{le-leb, ltb-false}
+
+pub true-is-not-false : {A : Type 0} → _≡_ {A = Bool} true false → A
+true-is-not-false e = let z : _≡_ {A = ℕ} 0 1 = cc in absurd (omega arith)
+
+pub both : (a b : Bool) → a ≡ true → b ≡ true → a && b ≡ true
+both a b p q = rw (p, q)
+
+pub both-true : (a b : Bool) → a && b ≡ true → (a ≡ true) × (b ≡ true)
+both-true true b e = (refl, e)
+both-true false b e = (e, (cc))
+
+pub both-false : (a b : Bool) → a && b ≡ false → a ≡ true → b ≡ true → ⊥
+both-false a b e p q = true-is-not-false (rw (p, q) at e)
+
+-- of two numbers, by the tests
+pub lt-or-ge : (a b : ℕ) → (ltb a b ≡ true) ⊎ (leb b a ≡ true)
+lt-or-ge a b = go (ltb a b) refl
+  where
+    go : (t : Bool) → ltb a b ≡ t → (ltb a b ≡ true) ⊎ (leb b a ≡ true)
+    go true e = inl e
+    go false e = inr (le-leb b a (ltb-false a b e))

@@ -1,0 +1,150 @@
+-- Of each call the answer, and every lent buffer at exit, as functions of the inputs; refusals in document 01's order.
+use Prim.Native.Nat.{ℕ, _*_, _/_}
+use mathlib.Core.List.{List, [], _∷_}
+use mathlib.Core.Bool.{Bool, true, false, not, _||_}
+use mathlib.Core.Option.{Option, none, some}
+use lib.Dec.{ltb, eqb}
+use lib.ListN.{length}
+use Rattle.rules.specs.Task.{tasksOf}
+use Rattle.rules.specs.Refusals.{numberOf, _when_, firstOf, answering, lent}
+use Rattle.rules.specs.Table.{tableRefusal}
+use Rattle.rules.specs.Dispatch.{Job, Row, dispatch, lateJob, rowWords}
+use Rattle.rules.specs.Jobs.{concrete, named}
+use Rattle.rules.specs.Demand.{verdict}
+use Rattle.rules.specs.Text.{Lines, took, stop, readSet, wordsRead, restRead, writeSet}
+use Rattle.rules.specs.declared.Refusal.{Refusal}
+use Rattle.rules.specs.declared.Refusal.the-variants.{BadEnd, TooShort, BadLine, NotMisses}
+use Rattle.rules.specs.declared.Blocker.{Blocker}
+use Rattle.rules.specs.declared.Verdict.{Verdict}
+use Rattle.rules.specs.declared.ReadAnswer.{ReadAnswer}
+use Rattle.rules.specs.declared.WriteAnswer.{WriteAnswer}
+use Rattle.rules.specs.declared.ScheduleAnswer.{ScheduleAnswer}
+use Rattle.rules.specs.declared.VerdictAnswer.{VerdictAnswer}
+use Rattle.rules.specs.declared.PatternAnswer.{PatternAnswer}
+
+-- refusal 7, with the number of the first line missing or not as due
+abbrev pub lineRefusal : Lines → Option Refusal
+lineRefusal (took ws rest) = none
+lineRefusal (stop l) = some (BadLine l)
+
+-- THE READER. Refusals 7, 6
+unfoldable pub readRefusal : List ℕ → List ℕ → Option Refusal
+readRefusal text table =
+    firstOf (lineRefusal (readSet text) ∷ (TooShort when ltb (length table) (length (wordsRead (readSet text)))) ∷ [])
+
+-- it answers the task count
+unfoldable pub readAnswer : List ℕ → List ℕ → ReadAnswer
+readAnswer text table = answering (readRefusal text table) ReadAnswer.Refused (ReadAnswer.Set (length (wordsRead (readSet text)) / 4))
+
+-- writes the set's words to the start of the lent table
+unfoldable pub readTable : List ℕ → List ℕ → List ℕ
+readTable text table = lent (readRefusal text table) (wordsRead (readSet text)) table
+
+-- and hands back the bytes just after the set; refusing, the whole text
+unfoldable pub readRest : List ℕ → List ℕ → List ℕ
+readRest text table = answering (readRefusal text table) (λ r. text) (restRead (readSet text))
+
+-- THE WRITER. Refusals 1, 2, 3, 4, 6
+unfoldable pub writeRefusal : List ℕ → List ℕ → Option Refusal
+writeRefusal table out = firstOf (tableRefusal table ∷ (TooShort when ltb (length out) (length (writeSet table))) ∷ [])
+
+-- it answers the length of the text
+unfoldable pub writeAnswer : List ℕ → List ℕ → WriteAnswer
+writeAnswer table out = answering (writeRefusal table out) WriteAnswer.Refused (WriteAnswer.Written (length (writeSet table)))
+
+-- and writes the text to the start of the lent buffer
+unfoldable pub writeBuffer : List ℕ → List ℕ → List ℕ
+writeBuffer table out = lent (writeRefusal table out) (writeSet table) out
+
+-- THE CONCRETE SCHEDULE. Z is 1 to 100,000
+abbrev pub endMost : ℕ
+endMost = 100000
+
+-- its rows
+unfoldable pub scheduleRows : List ℕ → ℕ → List Row
+scheduleRows table z = dispatch (concrete z (tasksOf table))
+
+-- refusals 1, 2, 3, 4, 5, 6
+unfoldable pub scheduleRefusal : List ℕ → ℕ → List ℕ → Option Refusal
+scheduleRefusal table z out =
+    firstOf
+    (tableRefusal table
+    ∷ (BadEnd when (eqb z 0 || ltb endMost z))
+    ∷ (TooShort when ltb (length out) (4 * length (scheduleRows table z)))
+    ∷ [])
+
+-- on time with the row count; or late, with the task, number and deadline of the late job whose deadline is least
+abbrev pub timing : ℕ → Option Job → ScheduleAnswer
+timing n none = ScheduleAnswer.OnTime n
+timing n (some j) = ScheduleAnswer.Late n (j .task) (j .number) (j .deadline)
+
+-- it answers that
+unfoldable pub scheduleAnswer : List ℕ → ℕ → List ℕ → ScheduleAnswer
+scheduleAnswer table z out =
+    answering (scheduleRefusal table z out) ScheduleAnswer.Refused
+    (timing (length (scheduleRows table z)) (lateJob (scheduleRows table z)))
+
+-- and writes the rows to the start of the lent buffer
+unfoldable pub scheduleBuffer : List ℕ → ℕ → List ℕ → List ℕ
+scheduleBuffer table z out = lent (scheduleRefusal table z out) (rowWords (scheduleRows table z)) out
+
+-- THE VERDICT. Refusals 1 to 4
+unfoldable pub verdictAnswer : List ℕ → VerdictAnswer
+verdictAnswer table = answering (tableRefusal table) VerdictAnswer.Refused (VerdictAnswer.Judged (verdict (tasksOf table)))
+
+-- the number of each verdict for the C call
+abbrev pub verdictNumber : Verdict → ℕ
+verdictNumber (Verdict.Meets σ) = 100
+verdictNumber (Verdict.Misses L b) = 101
+verdictNumber Verdict.TooFar = 102
+
+-- the values that each blocker and each verdict carry
+abbrev pub blockerValues : Blocker → List ℕ
+blockerValues (Blocker.Task k) = k ∷ []
+blockerValues Blocker.Nobody = []
+
+abbrev pub verdictValues : Verdict → List ℕ
+verdictValues (Verdict.Meets σ) = σ ∷ []
+verdictValues (Verdict.Misses L b) = L ∷ blockerValues b
+verdictValues Verdict.TooFar = []
+
+-- THE PATTERN BEHIND A "MISSES"
+abbrev pub isMisses : Verdict → Bool
+isMisses (Verdict.Meets σ) = false
+isMisses (Verdict.Misses L b) = true
+isMisses Verdict.TooFar = false
+
+-- the jobs of the pattern that a verdict names
+abbrev pub namedBy : Verdict → List ℕ → List Job
+namedBy (Verdict.Meets σ) table = []
+namedBy (Verdict.Misses L b) table = named L (tasksOf table)
+namedBy Verdict.TooFar table = []
+
+-- its rows
+unfoldable pub patternRows : List ℕ → List Row
+patternRows table = dispatch (namedBy (verdict (tasksOf table)) table)
+
+-- refusals 1, 2, 3, 4, 8, 6
+unfoldable pub patternRefusal : List ℕ → List ℕ → Option Refusal
+patternRefusal table out =
+    firstOf
+    (tableRefusal table
+    ∷ (NotMisses when not (isMisses (verdict (tasksOf table))))
+    ∷ (TooShort when ltb (length out) (4 * length (patternRows table)))
+    ∷ [])
+
+-- it answers the row count
+unfoldable pub patternAnswer : List ℕ → List ℕ → PatternAnswer
+patternAnswer table out = answering (patternRefusal table out) PatternAnswer.Refused (PatternAnswer.Rows (length (patternRows table)))
+
+-- and writes the rows to the start of the lent buffer
+unfoldable pub patternBuffer : List ℕ → List ℕ → List ℕ
+patternBuffer table out = lent (patternRefusal table out) (rowWords (patternRows table)) out
+
+-- THE C CALL. The refusal of the reading or of the table, at once
+unfoldable pub checkRefusal : List ℕ → Option Refusal
+checkRefusal text = firstOf (lineRefusal (readSet text) ∷ tableRefusal (wordsRead (readSet text)) ∷ [])
+
+-- one number: 100, 101 or 102 for the first set, or the refusal's
+unfoldable pub checkNumber : List ℕ → ℕ
+checkNumber text = answering (checkRefusal text) numberOf (verdictNumber (verdict (tasksOf (wordsRead (readSet text)))))

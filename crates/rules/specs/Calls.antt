@@ -1,0 +1,30 @@
+-- What each call promises: one record a call, its answer and every lent buffer at exit by equations.
+use mathlib.Core.Path.{_≡_}
+use Prim.Native.Nat.{ℕ}
+use mathlib.Core.List.{List}
+use Rattle.rules.specs.Answers.{readAnswer, readTable, readRest, writeAnswer, writeBuffer, scheduleAnswer, scheduleBuffer, verdictAnswer, patternAnswer, patternBuffer}
+use Rattle.rules.specs.declared.ReadAnswer.{ReadAnswer}
+use Rattle.rules.specs.declared.WriteAnswer.{WriteAnswer}
+use Rattle.rules.specs.declared.ScheduleAnswer.{ScheduleAnswer}
+use Rattle.rules.specs.declared.PatternAnswer.{PatternAnswer}
+
+-- the reader: its answer, the rest that it hands back, and the lent table
+pub record Reads (text table : List ℕ) (answer : ReadAnswer) (rest exit : List ℕ) : Type 0 where
+  pub says : answer ≡ readAnswer text table
+  pub hands-back : rest ≡ readRest text table
+  pub leaves : exit ≡ readTable text table
+
+-- the writer: its answer and the lent bytes
+pub record Writes (table out : List ℕ) (answer : WriteAnswer) (exit : List ℕ) : Type 0 where
+  pub says : answer ≡ writeAnswer table out
+  pub leaves : exit ≡ writeBuffer table out
+
+-- the concrete schedule: its answer and the lent rows
+pub record Schedules (table : List ℕ) (z : ℕ) (out : List ℕ) (answer : ScheduleAnswer) (exit : List ℕ) : Type 0 where
+  pub says : answer ≡ scheduleAnswer table z out
+  pub leaves : exit ≡ scheduleBuffer table z out
+
+-- the pattern: its answer and the lent rows
+pub record Shows (table out : List ℕ) (answer : PatternAnswer) (exit : List ℕ) : Type 0 where
+  pub says : answer ≡ patternAnswer table out
+  pub leaves : exit ≡ patternBuffer table out

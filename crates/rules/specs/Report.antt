@@ -1,0 +1,67 @@
+-- What the program prints. Document 01, "The program and the C call".
+use Prim.Native.Nat.{ℕ, zero, suc}
+use mathlib.Core.List.{List, [], _∷_, _++_}
+use mathlib.Core.Option.{Option, none, some}
+use lib.Dec.{ltb, eqb}
+use lib.ListN.{length}
+use Rattle.rules.specs.Choice.{if_then_else_}
+use Rattle.rules.specs.Task.{tasksOf}
+use Rattle.rules.specs.Refusals.{numberOf, answering}
+use Rattle.rules.specs.Demand.{verdict}
+use Rattle.rules.specs.Text.{bytes, digits, line, readSet, wordsRead, restRead}
+use Rattle.rules.specs.Answers.{checkRefusal}
+use Rattle.rules.specs.declared.Refusal.{Refusal}
+use Rattle.rules.specs.declared.Refusal.the-variants.{NoWord, NotFours, TooManyWords, OutOfRange, BadEnd, TooShort, BadLine, NotMisses}
+use Rattle.rules.specs.declared.Blocker.{Blocker}
+use Rattle.rules.specs.declared.Verdict.{Verdict}
+
+-- the longest input
+abbrev pub inputMost : ℕ
+inputMost = 32768
+
+-- a task number or none
+abbrev pub blockerWord : Blocker → List ℕ
+blockerWord (Blocker.Task k) = digits k
+blockerWord Blocker.Nobody = bytes "none"
+
+-- the lines of a verdict
+abbrev pub verdictLines : Verdict → List ℕ
+verdictLines (Verdict.Meets σ) = line (bytes "verdict=") (bytes "meets") ++ line (bytes "span=") (digits σ)
+verdictLines (Verdict.Misses L b) =
+    line (bytes "verdict=") (bytes "misses") ++ (line (bytes "length=") (digits L) ++ line (bytes "blocker=") (blockerWord b))
+verdictLines Verdict.TooFar = line (bytes "verdict=") (bytes "toofar")
+
+-- the line of what a refusal carries
+abbrev pub carriedLine : Refusal → List ℕ
+carriedLine NoWord = []
+carriedLine NotFours = []
+carriedLine TooManyWords = []
+carriedLine (OutOfRange i) = line (bytes "word=") (digits i)
+carriedLine BadEnd = []
+carriedLine TooShort = []
+carriedLine (BadLine l) = line (bytes "line=") (digits l)
+carriedLine NotMisses = []
+
+-- the lines of a refusal
+abbrev pub refusalLines : Refusal → List ℕ
+refusalLines r = line (bytes "refused=") (digits (numberOf r)) ++ carriedLine r
+
+-- the lines for the first set of a text, as set number n
+unfoldable pub setLines : ℕ → List ℕ → List ℕ
+setLines n text =
+    line (bytes "set=") (digits n)
+    ++ answering (checkRefusal text) refusalLines (verdictLines (verdict (tasksOf (wordsRead (readSet text)))))
+
+-- what is left to read after it: nothing after a 7, which stops the run
+unfoldable pub setRest : List ℕ → List ℕ
+setRest text = restRead (readSet text)
+
+-- the lines for at most k sets from number n on, until the rest is empty
+unfoldable pub setsLines : ℕ → ℕ → List ℕ → List ℕ
+setsLines zero n text = []
+setsLines (suc k) n text =
+    setLines n text ++ (if eqb (length (setRest text)) 0 then [] else setsLines k (suc n) (setRest text))
+
+-- all that is printed for an input
+unfoldable pub output : List ℕ → List ℕ
+output input = if ltb inputMost (length input) then bytes "toolong" ++ (10 ∷ []) else setsLines (suc (length input)) 1 input

@@ -34,7 +34,7 @@ module _ (p : ℕ → Bool) where
   none-more k e q later y a b = at-or-on k y a (λ i. rw i q) (λ i. later y i b)
 
   -- and after those before it
-  pub none-until : (k e : ℕ) → NonePasses p k e → p e ≡ false → NonePasses p k (suc e)
+  pub none-until : (k e : ℕ) → NonePasses p k e → p e ≡ false → NonePasses p k (e + 1)
   none-until k e before q y a b = at-or-on y e (omega arith) (λ i. rw (← i) q) (λ i. before y a i)
 
   here : (n k : ℕ) → p k ≡ true → least p (suc n) k ≡ some k

@@ -1,0 +1,23 @@
+use mathlib.Core.Path.{sym}
+use native.Mathlib.Omega.{arith}
+use borrow.Author.Needs.{needs}
+use Rattle.rules.proofs.Verdicts.{wait-out}
+use Rattle.verdict.proofs.Terms.{wait-is}
+use Rattle.verdict.specs.Parts.{taskOf}
+use Rattle.verdict.proofs.wait_of.Statement.{statement}
+use Rattle.verdict.proofs.wait_of.Tie as tie
+
+wide-requires : tie.Need-wide-requires
+wide-requires c κs = search needs
+
+sub-result : tie.Need-sub-result
+sub-result c = search needs
+
+returns : tie.Need-returns
+returns c = (wait-is _ _ _ (c .before .if1 .taken) (c .wide .ensures .0), omega arith)
+
+returns-2 : tie.Need-returns-2
+returns-2 c = (sym (wait-out _ (taskOf (c .before .before .args .task)) (c .if1 .left)), omega arith)
+
+pub wait-of-spec : {M : Type 1} → statement M
+wait-of-spec = tie.close (tie.spec wide-requires sub-result returns returns-2)

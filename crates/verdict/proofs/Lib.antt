@@ -1,5 +1,3 @@
--- Laws that the proofs of this crate share.
-pub mod Tasks
-pub mod Terms
+-- Laws that the proofs share.
 pub mod Looks
-pub mod Blockers
+pub mod Answered

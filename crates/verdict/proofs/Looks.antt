@@ -1,35 +1,22 @@
 -- The two searches from 1 to H: over the lengths one by one, over t by its work.
-use mathlib.Core.Path.{_≡_, refl, sym, ap, ap₂, _∙_}
+use mathlib.Core.Path.{_≡_, sym, ap, ap₂, _∙_}
 use mathlib.Core.Logic.{⊎-elim}
-use Prim.Native.Nat.{ℕ, suc, _+_, _≤_, _<_}
+use Prim.Native.Nat.{ℕ, _≤_, _<_}
 use native.Mathlib.Omega.{arith}
 use mathlib.Core.List.{List}
-use mathlib.Core.Bool.{Bool, true, false, _&&_}
+use mathlib.Core.Bool.{Bool, true}
 use mathlib.Core.Option.{Option, none, some}
-use lib.Dec.{leb, ltb}
-use borrow.Author.Tests.{ltb-true, leb-true, le-leb, lt-leb}
+use borrow.Author.Tests.{ltb-true, leb-true, lt-leb}
 use Rattle.rules.specs.Choice.{least}
 use Rattle.rules.specs.Task.{Task}
-use Rattle.rules.specs.Demand.{horizon, Due, Wait, fails, work, closes, firstFail, span, blocker, judge, verdict}
+use Rattle.rules.specs.Demand.{horizon, work, closes, firstFail, span, blocker, judge, verdict}
 use Rattle.rules.specs.declared.Blocker.{Blocker}
 use Rattle.rules.specs.declared.Verdict.{Verdict}
 use Rattle.rules.proofs.Tests.{lt-or-ge}
 use Rattle.rules.proofs.Search.{NonePasses, finds, finds-none}
 use Rattle.rules.proofs.Verdicts.{work-grows}
-use Rattle.verdict.specs.Parts.{Demands, answerOf}
-use Rattle.verdict.specs.declared.Demand.{Demand}
+use Rattle.verdict.specs.Searches.{answerOf}
 use Rattle.verdict.specs.declared.Found.{Found}
-
--- the test on a length, by its two parts
-module _ (L : ℕ) (ts : List Task) (x : Demand) (parts : Demands L ts x) where
-  pub nothing-due : x .due < 1 → false ≡ fails L ts
-  unfolding fails
-  nothing-due h = sym (ap (λ (b : Bool). b && ltb L (Due L ts + Wait L ts)) (lt-leb 1 (Due L ts) (omega arith)))
-
-  pub something-due : 1 ≤ x .due → (l : ℕ) → l ≡ L → ltb l (x .due + x .wait) ≡ fails L ts
-  unfolding fails
-  something-due h l e =
-      rw (e, parts .due-is, parts .wait-is) (sym (ap (λ (b : Bool). b && ltb L (Due L ts + Wait L ts)) (le-leb 1 (Due L ts) (omega arith))))
 
 -- where a search from 1 to H stops
 module _ (p : ℕ → Bool) (x : ℕ) (before : NonePasses p 1 x) where

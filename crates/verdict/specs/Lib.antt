@@ -1,2 +1,2 @@
 -- Words of the contracts in this crate.
-pub mod Parts
+pub mod Searches

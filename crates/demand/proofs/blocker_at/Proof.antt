@@ -5,11 +5,11 @@ use borrow.Author.Needs.{needs}
 use denote.Ref.{now}
 use Rattle.rules.specs.Task.{tasksOf}
 use Rattle.rules.specs.Demand.{wait}
-use Rattle.verdict.specs.Parts.{taskCount}
-use Rattle.verdict.proofs.Tasks.{tasksLeft, words-ranged}
-use Rattle.verdict.proofs.Blockers.{Holds, holds-none, holds-all, holds-new, holds-on, blocks, blocks-not}
-use Rattle.verdict.proofs.blocker_at.Statement.{statement}
-use Rattle.verdict.proofs.blocker_at.Tie as tie
+use Rattle.demand.specs.Parts.{taskCount}
+use Rattle.demand.proofs.Tasks.{tasksLeft, words-ranged}
+use Rattle.demand.proofs.Blockers.{Holds, holds-none, holds-all, holds-new, holds-on, blocks, blocks-not}
+use Rattle.demand.proofs.blocker_at.Statement.{statement}
+use Rattle.demand.proofs.blocker_at.Tie as tie
 
 abbrev Inv-loop : tie.InvT-loop
 Inv-loop table length most₀ task₀ i₀ most task i = (i ≤ taskCount table) × Holds length i (tasksLeft table i) most task

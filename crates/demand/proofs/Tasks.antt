@@ -8,8 +8,8 @@ use Rattle.rules.specs.Task.{Task, tasksOf}
 use Rattle.rules.specs.Table.{taskIn, tasksFrom, Valid}
 use Rattle.rules.specs.Demand.{due, Due, wait, Wait, work}
 use Rattle.rules.proofs.Tables.{tasks-are}
-use Rattle.verdict.specs.Parts.{taskCount, ValidTable, taskOf, Ranged, workOf}
-use Rattle.verdict.specs.declared.Words.{Words}
+use Rattle.demand.specs.Parts.{taskCount, ValidTable, taskOf, Ranged, workOf}
+use Rattle.demand.specs.declared.Words.{Words}
 
 -- the tasks from number i on
 abbrev pub tasksLeft : List ℕ → ℕ → List Task
@@ -51,9 +51,11 @@ module _ (w : List ℕ) where
   pub words-ranged : ValidTable w → (i : ℕ) → i < taskCount w → (x : Words) → taskOf x ≡ taskIn w i → Ranged x
   words-ranged v i h x e =
       let c : x .c ≡ getD w (4 * i) 0 = ap (λ (τ : Task). τ .C) e in
+      let d : x .d ≡ getD w (4 * i + 1) 0 = ap (λ (τ : Task). τ .D) e in
       let t : x .t ≡ getD w (4 * i + 2) 0 = ap (λ (τ : Task). τ .T) e in
       record {
         c-low = omega (arith, v .C-low i h);
         c-high = omega (arith, v .high (4 * i) (omega arith));
+        d-low = omega (arith, v .D-low i h);
         t-low = omega (arith, v .T-low i h);
       }

@@ -3,10 +3,10 @@ use Prim.Native.Nat.{_-_, _*_, _^_, _≤_, _<_}
 use native.Mathlib.Omega.{arith}
 use borrow.Author.Needs.{needs}
 use Rattle.rules.specs.Demand.{due, Due, wait, Wait}
-use Rattle.verdict.specs.Parts.{taskCount, Ranged}
-use Rattle.verdict.proofs.Tasks.{tasksLeft, left-none, left-all, due-more, wait-more, words-ranged}
-use Rattle.verdict.proofs.demand_at.Statement.{statement}
-use Rattle.verdict.proofs.demand_at.Tie as tie
+use Rattle.demand.specs.Parts.{taskCount, Ranged}
+use Rattle.demand.proofs.Tasks.{tasksLeft, left-none, left-all, due-more, wait-more, words-ranged}
+use Rattle.demand.proofs.demand_at.Statement.{statement}
+use Rattle.demand.proofs.demand_at.Tie as tie
 
 abbrev Inv-loop : tie.InvT-loop
 Inv-loop table length due₀ wait₀ i₀ due wait i =

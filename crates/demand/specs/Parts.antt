@@ -2,14 +2,12 @@
 use mathlib.Core.Path.{_≡_}
 use Prim.Native.Nat.{ℕ, _*_, _/_, _≤_, _<_, _^_}
 use mathlib.Core.List.{List}
-use mathlib.Core.Option.{Option, none, some}
 use lib.ListN.{length}
 use Rattle.rules.specs.Task.{Task}
 use Rattle.rules.specs.Table.{Valid}
 use Rattle.rules.specs.Demand.{Due, Wait, ceiling}
-use Rattle.verdict.specs.declared.Words.{Words}
-use Rattle.verdict.specs.declared.Demand.{Demand}
-use Rattle.verdict.specs.declared.Found.{Found}
+use Rattle.demand.specs.declared.Words.{Words}
+use Rattle.demand.specs.declared.Demand.{Demand}
 
 -- how many tasks a table has
 abbrev pub taskCount : List ℕ → ℕ
@@ -27,6 +25,7 @@ taskOf x = record { C = x .c; D = x .d; T = x .t; R = x .r }
 pub record Ranged (x : Words) : Type 0 where
   pub c-low : 1 ≤ x .c
   pub c-high : x .c ≤ 65535
+  pub d-low : 1 ≤ x .d
   pub t-low : 1 ≤ x .t
 
 -- the two parts for a length, with room to add them up
@@ -39,8 +38,3 @@ pub record Demands (L : ℕ) (ts : List Task) (x : Demand) : Type 0 where
 -- one task's part of the work
 unfoldable pub workOf : ℕ → Task → ℕ
 workOf t τ = τ .C * ceiling t (τ .T)
-
--- what a search answers: a number, or that there is none
-abbrev pub answerOf : Found → Option ℕ
-answerOf (Found.At x) = some x
-answerOf Found.Nowhere = none

@@ -14,8 +14,8 @@ use Rattle.rules.specs.Demand.{wait, Wait, firstWaiting, blocker}
 use Rattle.rules.specs.declared.Blocker.{Blocker}
 use Rattle.rules.proofs.Tests.{both, lt-or-ge}
 use Rattle.rules.proofs.Verdicts.{wait-in, wait-out}
-use Rattle.verdict.specs.Parts.{taskCount, ValidTable}
-use Rattle.verdict.proofs.Tasks.{tasksLeft, left-none, left-more, left-all}
+use Rattle.demand.specs.Parts.{taskCount, ValidTable}
+use Rattle.demand.proofs.Tasks.{tasksLeft, left-none, left-more, left-all}
 
 -- most is the greatest wait of the tasks, numbered from k on, and task the first that has it
 pub record Holds (L k : ℕ) (ts : List Task) (most task : ℕ) : Type 0 where

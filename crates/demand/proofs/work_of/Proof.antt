@@ -2,10 +2,10 @@ use Prim.Native.Nat.{_+_, _-_, _*_, _/_, _^_, _≤_}
 use native.Mathlib.Nat.{div-le-self}
 use native.Mathlib.Omega.{arith}
 use borrow.Author.Needs.{needs}
-use Rattle.verdict.specs.Parts.{taskOf}
-use Rattle.verdict.proofs.Terms.{times-small, work-is}
-use Rattle.verdict.proofs.work_of.Statement.{statement}
-use Rattle.verdict.proofs.work_of.Tie as tie
+use Rattle.demand.specs.Parts.{taskOf}
+use Rattle.demand.proofs.Terms.{times-small, work-is}
+use Rattle.demand.proofs.work_of.Statement.{statement}
+use Rattle.demand.proofs.work_of.Tie as tie
 
 wide-requires : tie.Need-wide-requires
 wide-requires c κs = search needs
@@ -33,7 +33,7 @@ mul-result : tie.Need-mul-result
 mul-result c = omega (arith, small c)
 
 returns : tie.Need-returns
-returns c = (work-is (taskOf (c .before .before .before .args .task)) _ _ _ _ (c .before .wide2 .ensures .0) (c .before .before .wide .ensures .0) (c .wide3 .ensures .0), small c)
+returns c = (work-is _ (taskOf (c .before .before .before .args .task)) _ _ _ (c .before .wide2 .ensures .0) (c .before .before .wide .ensures .0) (c .wide3 .ensures .0), small c)
 
 pub work-of-spec : {M : Type 1} → statement M
 work-of-spec =

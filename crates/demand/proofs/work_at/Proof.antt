@@ -3,10 +3,10 @@ use Prim.Native.Nat.{_-_, _*_, _^_, _≤_}
 use native.Mathlib.Omega.{arith}
 use borrow.Author.Needs.{needs}
 use Rattle.rules.specs.Demand.{work}
-use Rattle.verdict.specs.Parts.{taskCount, workOf}
-use Rattle.verdict.proofs.Tasks.{tasksLeft, left-none, left-all, work-more, words-ranged}
-use Rattle.verdict.proofs.work_at.Statement.{statement}
-use Rattle.verdict.proofs.work_at.Tie as tie
+use Rattle.demand.specs.Parts.{taskCount, workOf}
+use Rattle.demand.proofs.Tasks.{tasksLeft, left-none, left-all, work-more, words-ranged}
+use Rattle.demand.proofs.work_at.Statement.{statement}
+use Rattle.demand.proofs.work_at.Tie as tie
 
 abbrev Inv-loop : tie.InvT-loop
 Inv-loop table t sum₀ i₀ sum i =

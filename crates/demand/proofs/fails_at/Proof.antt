@@ -1,8 +1,8 @@
 use native.Mathlib.Omega.{arith}
 use borrow.Author.Needs.{needs}
-use Rattle.verdict.proofs.Looks.{nothing-due, something-due}
-use Rattle.verdict.proofs.fails_at.Statement.{statement}
-use Rattle.verdict.proofs.fails_at.Tie as tie
+use Rattle.demand.proofs.Terms.{nothing-due, something-due}
+use Rattle.demand.proofs.fails_at.Statement.{statement}
+use Rattle.demand.proofs.fails_at.Tie as tie
 
 demand-at-requires : tie.Need-demand-at-requires
 demand-at-requires c κs = search needs

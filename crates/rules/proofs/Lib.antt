@@ -5,3 +5,5 @@ pub mod Taken
 pub mod Legal
 pub mod Picked
 pub mod Runs
+pub mod Rest
+pub mod Trains

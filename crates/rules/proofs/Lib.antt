@@ -7,3 +7,6 @@ pub mod Picked
 pub mod Runs
 pub mod Rest
 pub mod Trains
+pub mod Count
+pub mod Fails
+pub mod Meets

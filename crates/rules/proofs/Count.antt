@@ -1,20 +1,19 @@
 -- How long the jobs of a legal pattern can run in all: those due in a window at most Due, those released in one at most work.
-use mathlib.Core.Path.{_≡_, refl}
+use mathlib.Core.Path.{_≡_, refl, _∙_}
 use Prim.Native.Nat.{ℕ, zero, suc, _+_, _-_, _*_, _/_, max, min, _≤_, _<_}
-use native.Mathlib.Nat.{lt-mul-div-succ, mul-add, mul-suc, mul-zero, add-comm}
+use native.Mathlib.Nat.{lt-mul-div-succ, mul-add, mul-suc, mul-zero, add-comm, zero-add}
 use native.Mathlib.Omega.{arith}
 use mathlib.Core.List.{List, [], _∷_, List·Memᴰ, List·Memᴰ·head, List·Memᴰ·tail, List·Memᴰ·not-nil}
 use mathlib.Core.Bool.{Bool, true, false, not, _&&_}
-use borrow.Author.Tests.{not-true, eqb-true, eqb-false, leb-true, leb-false, ltb-true, ltb-false, le-leb, lt-ltb}
+use borrow.Author.Tests.{not-true, eqb-true, eqb-false, leb-true, ltb-true, ltb-false, le-leb, lt-ltb}
 use lib.Dec.{eqb, leb, ltb}
-use lib.ListN.{length}
 use Rattle.rules.specs.Choice.{if_then_else_}
 use Rattle.rules.specs.Task.{Task, taskAt, AllSound}
 use Rattle.rules.specs.Dispatch.{Job}
 use Rattle.rules.specs.Jobs.{countWithin}
 use Rattle.rules.specs.Legal.{Legal}
 use Rattle.rules.specs.Demand.{due, Due, ceiling, work}
-use Rattle.rules.proofs.Tests.{both-true, true-is-not-false}
+use Rattle.rules.proofs.Tests.{both-true}
 use Rattle.rules.proofs.Taken.{Taken, now, later}
 use Rattle.rules.proofs.Legal.{taskAt-sound, legal-fits}
 use Rattle.rules.proofs.Rest.{Rest, rest-all, rest-here, rest-next}
@@ -56,6 +55,11 @@ total-taken p (later t) = let ih = total-taken p t in omega arith
 pub total-drops : (p : Job → Bool) {j : Job} {js ks : List Job} → Taken j js ks → p j ≡ true → total p js ≡ j .run + total p ks
 unfolding amount
 total-drops p t e = rw e at (total-taken p t)
+
+-- one that does not pass
+pub total-stays : (p : Job → Bool) {j : Job} {js ks : List Job} → Taken j js ks → p j ≡ false → total p js ≡ total p ks
+unfolding amount
+total-stays p t e = (rw e at (total-taken p t)) ∙ zero-add _
 
 -- those that pass, cut in two by another test
 total-cut : (p t : Job → Bool) (js : List Job) → total p js ≡ total (λ j. p j && t j) js + total (λ j. p j && not (t j)) js
@@ -197,12 +201,15 @@ ceiling-covers : (t T : ℕ) → 1 ≤ T → t ≤ T * ceiling t T
 unfolding ceiling
 ceiling-covers t T pos = let q = lt-mul-div-succ (t + T - 1) pos in omega (arith, mul-add T ((t + T - 1) / T) 1)
 
--- the jobs due by tick d, and those released before tick x
+-- the jobs due by tick d, those released before tick x, and those released at x or later
 unfoldable pub dueBy : ℕ → Job → Bool
 dueBy d j = leb (j .deadline) d
 
 unfoldable pub early : ℕ → Job → Bool
 early x j = ltb (j .release) x
+
+unfoldable pub since : ℕ → Job → Bool
+since x j = leb x (j .release)
 
 pub is-due : (d : ℕ) (j : Job) → j .deadline ≤ d → dueBy d j ≡ true
 unfolding dueBy

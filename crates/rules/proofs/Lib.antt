@@ -10,3 +10,7 @@ pub mod Trains
 pub mod Count
 pub mod Fails
 pub mod Meets
+pub mod Late
+pub mod Blocks
+pub mod Misses
+pub mod Least

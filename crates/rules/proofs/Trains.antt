@@ -1,15 +1,19 @@
 -- Trains of jobs: which jobs stand in them; and they are legal, whatever the first releases and the counts.
 use mathlib.Core.Path.{_≡_, refl, sym, subst}
 use mathlib.Core.Logic.{_⊎_, inl, inr}
+use mathlib.Core.Bool.{true}
 use Prim.Native.Nat.{ℕ, zero, suc, _+_, _*_, _≤_, _<_}
 use native.Mathlib.Nat.{suc-mul}
 use native.Mathlib.Omega.{arith}
-use mathlib.Core.List.{List, [], _∷_, _++_, List·Memᴰ, List·Memᴰ·head, List·Memᴰ·tail, List·Memᴰ·not-nil, List·Memᴰ·append-cases}
+use mathlib.Core.List.{List, [], _∷_, _++_, List·Memᴰ, List·Memᴰ·head, List·Memᴰ·tail, List·Memᴰ·not-nil, List·Memᴰ·append-cases, Memᴰ·append-left, Memᴰ·append-right}
+use borrow.Author.Tests.{leb-true, ltb-true}
+use lib.Dec.{leb, ltb}
 use lib.ListN.{length}
 use Rattle.rules.specs.Task.{Task, taskAt, AllSound}
 use Rattle.rules.specs.Dispatch.{Job}
 use Rattle.rules.specs.Jobs.{Train, train, trains}
 use Rattle.rules.specs.Legal.{Apart, Legal}
+use Rattle.rules.proofs.Tests.{lt-or-ge}
 use Rattle.rules.proofs.Rest.{Rest, rest-all, rest-here, rest-next}
 use Rattle.rules.proofs.Legal.{taskAt-sound}
 
@@ -73,7 +77,11 @@ append-legal ts (x ∷ xs) ys l k h = (
     go j (inl m) = l .1 j m
     go j (inr m) = h x (List·Memᴰ·head refl) j m
 
--- a job of the train of task k
+-- the train of task k by a plan
+abbrev pub trainOf : (ℕ → Task → Train) → ℕ → Task → List Job
+trainOf plan k τ = train (plan k τ .count) 0 (plan k τ .first) k τ
+
+-- a job of it
 abbrev pub OfTask : (ℕ → Task → Train) → List Task → ℕ → Job → Type 0
 OfTask plan ts k j = InTrain (plan k (taskAt ts k) .count) 0 (plan k (taskAt ts k) .first) k (taskAt ts k) j
 
@@ -86,9 +94,9 @@ module _ (plan : ℕ → Task → Train) (ts : List Task) where
   from-trains : (k : ℕ) (us : List Task) → Rest ts k us → (j : Job) → List·Memᴰ j (trains plan k us) → (k ≤ j .task) × InTrains plan ts j
   unfolding trains
   from-trains k [] R j m = absurd (List·Memᴰ·not-nil m)
-  from-trains k (τ ∷ us) R j m = go (List·Memᴰ·append-cases (train (plan k τ .count) 0 (plan k τ .first) k τ) m) (from-trains (suc k) us (rest-next ts k τ us R) j)
+  from-trains k (τ ∷ us) R j m = go (List·Memᴰ·append-cases (trainOf plan k τ) m) (from-trains (suc k) us (rest-next ts k τ us R) j)
     where
-      go : List·Memᴰ j (train (plan k τ .count) 0 (plan k τ .first) k τ) ⊎ List·Memᴰ j (trains plan (suc k) us)
+      go : List·Memᴰ j (trainOf plan k τ) ⊎ List·Memᴰ j (trains plan (suc k) us)
           → (List·Memᴰ j (trains plan (suc k) us) → (suc k ≤ j .task) × InTrains plan ts j) → (k ≤ j .task) × InTrains plan ts j
       go (inl n) ih =
           let f = in-train (plan k τ .count) 0 (plan k τ .first) k τ j n in
@@ -101,11 +109,31 @@ module _ (plan : ℕ → Task → Train) (ts : List Task) where
   pub in-trains : (j : Job) → List·Memᴰ j (trains plan 0 ts) → InTrains plan ts j
   in-trains j m = from-trains 0 ts (rest-all ts) j m .1
 
+  -- a task's train stands in the trains
+  has-from : (b : ℕ) (j : Job) → List·Memᴰ j (trainOf plan b (taskAt ts b))
+      → (k : ℕ) (us : List Task) → Rest ts k us → k ≤ b → b < length ts → List·Memᴰ j (trains plan k us)
+  unfolding trains
+  has-from b j m k [] R low high = absurd (let e = R .ends in omega arith)
+  has-from b j m k (τ ∷ us) R low high = go (lt-or-ge k b) (has-from b j m (suc k) us (rest-next ts k τ us R))
+    where
+      go : (ltb k b ≡ true) ⊎ (leb b k ≡ true) → (suc k ≤ b → b < length ts → List·Memᴰ j (trains plan (suc k) us))
+          → List·Memᴰ j (trainOf plan k τ ++ trains plan (suc k) us)
+      go (inl h) ih = Memᴰ·append-right (trainOf plan k τ) (ih (ltb-true _ _ h) high)
+      go (inr h) ih =
+          let le : b ≤ k = leb-true _ _ h in
+          let e : b ≡ k = omega arith in
+          let n : List·Memᴰ j (trainOf plan k τ) = rw (rest-here ts k τ us R) (rw e at m) in
+          Memᴰ·append-left (trains plan (suc k) us) n
+
+  pub train-has : (b : ℕ) (j : Job) → b < length ts
+      → List·Memᴰ j (trainOf plan b (taskAt ts b)) → List·Memᴰ j (trains plan 0 ts)
+  train-has b j h m = has-from b j m 0 ts (rest-all ts) (omega arith) h
+
   legal-from : AllSound ts → (k : ℕ) (us : List Task) → Rest ts k us → Legal ts (trains plan k us)
   unfolding trains
   legal-from sound k [] R = tt
   legal-from sound k (τ ∷ us) R =
-      append-legal ts (train (plan k τ .count) 0 (plan k τ .first) k τ) (trains plan (suc k) us)
+      append-legal ts (trainOf plan k τ) (trains plan (suc k) us)
       (subst (λ (x : Task). Legal ts (train (plan k τ .count) 0 (plan k τ .first) k x)) (sym (rest-here ts k τ us R))
       (train-legal ts sound (plan k τ .count) 0 (plan k τ .first) k (let e = R .ends in omega arith)))
       (legal-from sound (suc k) us (rest-next ts k τ us R))

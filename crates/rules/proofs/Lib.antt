@@ -7,3 +7,5 @@ pub mod Picked
 pub mod Runs
 pub mod Rest
 pub mod Trains
+pub mod Search
+pub mod Verdicts

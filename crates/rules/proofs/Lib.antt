@@ -14,3 +14,5 @@ pub mod Late
 pub mod Blocks
 pub mod Misses
 pub mod Least
+pub mod Search
+pub mod Verdicts

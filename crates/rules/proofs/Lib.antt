@@ -1,3 +1,4 @@
 -- Laws about the definitions.
 pub mod Tests
 pub mod Tables
+pub mod Trains

@@ -1,4 +1,11 @@
 -- Laws about the definitions.
+pub mod Trains
+pub mod Blockers
+pub mod LateJob
+pub mod Refused
 pub mod Tests
 pub mod Tables
-pub mod Trains
+pub mod Taken
+pub mod Legal
+pub mod Picked
+pub mod Runs

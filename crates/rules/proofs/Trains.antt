@@ -16,6 +16,7 @@ use Rattle.rules.specs.Dispatch.{Job}
 use Rattle.rules.specs.Jobs.{train, Train, trains, countBefore, concreteTrain, concrete, countWithin, namedTrain, named}
 use Rattle.rules.specs.Demand.{blocker}
 use Rattle.rules.specs.declared.Blocker.{Blocker}
+use Rattle.rules.proofs.Legal.{taskAt-sound}
 
 -- the whole part of a quotient, as a count
 div-counts : (i m T : ℕ) → 1 ≤ T → (i < 1 + m / T) ↔ (i * T ≤ m)
@@ -162,16 +163,6 @@ trains-members plan ts j =
     of : (k : ℕ) → Aboard plan 0 ts j k → k ≡ j .task → On (j .task)
     of k x e = subst On e (x .known, x .counted, x .on-train)
 
-taskAt-mem : (ts : List Task) (k : ℕ) → k < length ts → List·Memᴰ (taskAt ts k) ts
-unfolding taskAt
-taskAt-mem [] k h = absurd (omega arith)
-taskAt-mem (τ ∷ ts) zero h = List·Memᴰ·head refl
-taskAt-mem (τ ∷ ts) (suc k) h = List·Memᴰ·tail (taskAt-mem ts k (omega arith))
-
--- a task of a sound set has T of 1 or more
-period : (ts : List Task) (k : ℕ) → AllSound ts → k < length ts → 1 ≤ taskAt ts k .T
-period ts k sound h = sound (taskAt ts k) (taskAt-mem ts k h) .T-pos
-
 -- the jobs of the concrete schedule are those of the tasks' trains from R on that are released before Z
 pub concrete-members : (Z : ℕ) (ts : List Task) (j : Job) → AllSound ts
     → List·Memᴰ j (concrete Z ts) ↔ ((j .task < length ts) × (j .release < Z) × OnTrain (taskOf ts j .R) (taskOf ts j) j)
@@ -184,13 +175,13 @@ concrete-members Z ts j sound =
     all = trains-members (concreteTrain Z) ts j
 
     counts : j .task < length ts → (j .number < countBefore Z (taskOf ts j)) ↔ (taskOf ts j .R + j .number * taskOf ts j .T < Z)
-    counts h = count-before Z (j .number) (taskOf ts j) (period ts (j .task) sound h)
+    counts h = count-before Z (j .number) (taskOf ts j) (taskAt-sound ts sound (j .task) h .T-pos)
 
 -- of a train that begins at r, the jobs counted within L are those due by r + L
 due-within : (L r : ℕ) (ts : List Task) (j : Job) → AllSound ts → j .task < length ts → OnTrain r (taskOf ts j) j
     → (j .number < countWithin L (taskOf ts j)) ↔ (j .deadline ≤ r + L)
 due-within L r ts j sound h o =
-    let c = count-within L (j .number) (taskOf ts j) (period ts (j .task) sound h) in
+    let c = count-within L (j .number) (taskOf ts j) (taskAt-sound ts sound (j .task) h .T-pos) in
     (λ x. let l = c .0 x in omega arith, λ x. c .1 (omega arith))
 
 -- the named pattern's jobs of one task, by the train that is planned for it
@@ -202,29 +193,31 @@ module _ (L : ℕ) (ts : List Task) (j : Job) (f n : ℕ) where
       subst (λ (t : Train). List·Memᴰ j (trains (namedTrain L (blocker L ts)) 0 ts) ↔ ((j .task < length ts) × (j .number < t .count) × OnTrain (t .first) (taskOf ts j) j))
       e (trains-members (namedTrain L (blocker L ts)) ts j)
 
--- those of a task with a train that is counted within L are due by r + L
-within-train : (L : ℕ) (ts : List Task) (j : Job) (r : ℕ) → AllSound ts
+-- those of a train that begins at r and is counted within L are due by r + L
+within-train : (L : ℕ) (ts : List Task) (j : Job) (r d : ℕ) → r + L ≡ d → AllSound ts
     → namedTrain L (blocker L ts) (j .task) (taskOf ts j) ≡ record { first = r; count = countWithin L (taskOf ts j) }
-    → List·Memᴰ j (named L ts) ↔ ((j .task < length ts) × (j .deadline ≤ r + L) × OnTrain r (taskOf ts j) j)
-within-train L ts j r sound e =
+    → List·Memᴰ j (named L ts) ↔ ((j .task < length ts) × (j .deadline ≤ d) × OnTrain r (taskOf ts j) j)
+within-train L ts j r d f sound e =
     let all = of-train L ts j r (countWithin L (taskOf ts j)) e in
-    (λ m. let x = all .0 m in (x .0, due-within L r ts j sound (x .0) (x .2) .0 (x .1), x .2),
-      λ x. all .1 (x .0, due-within L r ts j sound (x .0) (x .2) .1 (x .1), x .2))
+    (λ m. let x = all .0 m in (x .0, let l = due-within L r ts j sound (x .0) (x .2) .0 (x .1) in omega arith, x .2),
+      λ x. all .1 (x .0, due-within L r ts j sound (x .0) (x .2) .1 (omega arith), x .2))
 
 -- without a blocker the named pattern's jobs are those of the tasks' trains from 0 on that are due by L
 pub named-members : (L : ℕ) (ts : List Task) (j : Job) → AllSound ts → blocker L ts ≡ Blocker.Nobody
-    → List·Memᴰ j (named L ts) ↔ ((j .task < length ts) × (j .deadline ≤ 0 + L) × OnTrain 0 (taskOf ts j) j)
+    → List·Memᴰ j (named L ts) ↔ ((j .task < length ts) × (j .deadline ≤ L) × OnTrain 0 (taskOf ts j) j)
 unfolding namedTrain
-named-members L ts j sound e = within-train L ts j 0 sound (rw e)
+named-members L ts j sound e = within-train L ts j 0 L (omega arith) sound (rw e)
 
--- with a blocker, they are its first job, released at 0,
+-- with a blocker they are its first job, released at 0,
 pub named-blocker : (L b : ℕ) (ts : List Task) (j : Job) → blocker L ts ≡ Blocker.Task b → j .task ≡ b
-    → List·Memᴰ j (named L ts) ↔ ((j .task < length ts) × (j .number < 1) × OnTrain 0 (taskOf ts j) j)
+    → List·Memᴰ j (named L ts) ↔ ((j .task < length ts) × (j .number ≡ 0) × OnTrain 0 (taskOf ts j) j)
 unfolding namedTrain
-named-blocker L b ts j e h = of-train L ts j 0 1 (rw (e, eq-eqb (j .task) b h))
+named-blocker L b ts j e h =
+    let all = of-train L ts j 0 1 (rw (e, eq-eqb (j .task) b h)) in
+    (λ m. let x = all .0 m in (x .0, omega arith, x .2), λ x. all .1 (x .0, omega arith, x .2))
 
--- and the jobs of the other tasks' trains from 1 on that are due by L + 1
+-- and those of the other tasks' trains from 1 on that are due by L + 1
 pub named-others : (L b : ℕ) (ts : List Task) (j : Job) → AllSound ts → blocker L ts ≡ Blocker.Task b → (j .task ≡ b → ⊥)
-    → List·Memᴰ j (named L ts) ↔ ((j .task < length ts) × (j .deadline ≤ 1 + L) × OnTrain 1 (taskOf ts j) j)
+    → List·Memᴰ j (named L ts) ↔ ((j .task < length ts) × (j .deadline ≤ L + 1) × OnTrain 1 (taskOf ts j) j)
 unfolding namedTrain
-named-others L b ts j sound e h = within-train L ts j 1 sound (rw (e, ne-eqb (j .task) b h))
+named-others L b ts j sound e h = within-train L ts j 1 (L + 1) (omega arith) sound (rw (e, ne-eqb (j .task) b h))

@@ -1,5 +1,6 @@
 -- Laws about the definitions.
 pub mod Trains
+pub mod Dispatcher
 pub mod Blockers
 pub mod LateJob
 pub mod Refused

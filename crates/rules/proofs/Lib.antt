@@ -1,5 +1,5 @@
 -- Laws about the definitions.
-pub mod Trains
+pub mod Members
 pub mod Dispatcher
 pub mod Blockers
 pub mod LateJob

@@ -10,3 +10,5 @@ pub mod Taken
 pub mod Legal
 pub mod Picked
 pub mod Runs
+pub mod Search
+pub mod Verdicts

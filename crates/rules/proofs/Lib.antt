@@ -1,4 +1,9 @@
 -- Laws about the definitions.
+pub mod Members
+pub mod Dispatcher
+pub mod Blockers
+pub mod LateJob
+pub mod Refused
 pub mod Tests
 pub mod Tables
 pub mod Taken

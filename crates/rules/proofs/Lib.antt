@@ -13,10 +13,8 @@ pub mod Runs
 pub mod Rest
 pub mod Trains
 pub mod Count
-pub mod Fails
 pub mod Meets
 pub mod Late
-pub mod Blocks
 pub mod Misses
 pub mod Least
 pub mod Search

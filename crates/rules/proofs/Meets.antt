@@ -3,12 +3,14 @@
 -- and the start of the window that matters for d.
 use mathlib.Core.Path.{_≡_}
 use mathlib.Core.Logic.{_⊎_, inl, inr}
-use Prim.Native.Nat.{ℕ, _+_, _-_, _≤_, _<_}
+use Prim.Native.Nat.{ℕ, zero, suc, _+_, _-_, _*_, _/_, _≤_, _<_}
+use native.Mathlib.Nat.{mul-pos}
 use native.Mathlib.Omega.{arith}
-use mathlib.Core.List.{List, _∷_, List·Memᴰ, List·Memᴰ·head, List·Memᴰ·tail, List·Memᴰ·not-nil}
+use mathlib.Core.List.{List, [], _∷_, List·Memᴰ, List·Memᴰ·head, List·Memᴰ·tail, List·Memᴰ·not-nil}
 use mathlib.Core.Bool.{true, false}
-use borrow.Author.Tests.{leb-true, ltb-true, le-ltb}
+use borrow.Author.Tests.{leb-true, ltb-true, ltb-false, le-leb, le-ltb}
 use lib.Dec.{leb, ltb}
+use lib.ListN.{length}
 use Rattle.rules.specs.Task.{Task, taskAt, Sound, AllSound}
 use Rattle.rules.specs.Dispatch.{Job, Row, finish, late, earliest, ready, dispatch}
 use Rattle.rules.specs.Legal.{Fits, Legal}
@@ -19,7 +21,22 @@ use Rattle.rules.proofs.Legal.{taskAt-sound, legal-fits, taken-legal}
 use Rattle.rules.proofs.Picked.{earliest-least, earliest-some, Picked}
 use Rattle.rules.proofs.Runs.{Run, done, step, dispatch-run}
 use Rattle.rules.proofs.Count.{total, total-some, total-drops, dueBy, early, is-due, is-early, count-due, count-work}
-use Rattle.rules.proofs.Fails.{fails-false, closes-true, due-some, wait-some}
+use Rattle.rules.proofs.Blockers.{wait-most}
+use Rattle.rules.proofs.Verdicts.{closes-when, due-in}
+
+-- a length that does not fail, and within which work is due, holds it and the wait
+fails-false : (L : ℕ) (ts : List Task) → fails L ts ≡ false → 1 ≤ Due L ts → Due L ts + Wait L ts ≤ L
+unfolding fails
+fails-false L ts e h = ltb-false _ _ (rw (le-leb 1 (Due L ts) h) at e)
+
+-- a task with D at most L has work in Due L
+due-some : (L : ℕ) (ts : List Task) (k : ℕ) → k < length ts → taskAt ts k .D ≤ L → 1 ≤ taskAt ts k .C → 1 ≤ Due L ts
+unfolding Due taskAt
+due-some L [] k h d c = absurd (omega arith)
+due-some L (τ ∷ ts) zero h d c =
+    let p : 0 < τ .C * (1 + (L - τ .D) / τ .T) = mul-pos c (omega arith) in
+    omega (arith, due-in L τ d)
+due-some L (τ ∷ ts) (suc k) h d c = let ih = due-some L ts k (omega arith) d c in omega arith
 
 -- the tile is free from t on, and js are the jobs not yet started
 pub record Busy (ts : List Task) (σ d t : ℕ) (js : List Job) : Type 0 where
@@ -102,7 +119,7 @@ module _ (ts : List Task) (sound : AllSound ts) (σ : ℕ) (pos : 1 ≤ σ) (clo
             let q = B .from-b j (P .mem) in
             let f = fits in
             let z = its-task .D-pos in
-            let w = wait-some (d - (s + 1)) ts (j .task) (fits .known) (omega arith) in
+            let w = wait-most (d - (s + 1)) ts (j .task) (fits .known) (omega arith) in
             record { b = B .b; a = s + 1; order = omega arith; from-b = from-b; span = span; from-a = still h; room = omega arith }
 
     -- if the job that was picked is due by d, it ends by d
@@ -150,6 +167,6 @@ pub meets : (ts : List Task) → AllSound ts → (σ : ℕ) → 1 ≤ σ → clo
     → (js : List Job) → Legal ts js → (w : Row) → List·Memᴰ w (dispatch js) → late w ≡ false
 unfolding late
 meets ts sound σ pos e ok js l w m =
-    let closed = closes-true σ ts e in
+    let closed = closes-when ts σ .0 e in
     let free = fresh ts sound σ pos closed (w .job .deadline) 0 js l (λ j n. omega arith) in
     le-ltb _ _ (run-meets ts sound σ pos closed ok (w .job .deadline) (dispatch-run ts sound js l) l free w m (omega arith))

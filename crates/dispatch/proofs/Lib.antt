@@ -1,0 +1,7 @@
+-- Laws about jobs, trains and the dispatcher's state.
+pub mod Order
+pub mod Picks
+pub mod Trains
+pub mod Walk
+pub mod Rest
+pub mod Loop

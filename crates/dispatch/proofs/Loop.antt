@@ -8,6 +8,7 @@ use mathlib.Core.Option.{Option, none, some}
 use lib.Dec.{ltb}
 use lib.ListN.{length, getD, take, drop, set, length-append, length-drop, length-set}
 use lib.Seq.{take-at, drop-at, drop-drop}
+use borrow.Author.Tests.{lt-ltb, le-ltb}
 use Rattle.rules.specs.Choice.{if_then_else_}
 use Rattle.rules.specs.Task.{tasksOf}
 use Rattle.rules.specs.Dispatch.{Job, Row, finish, late, before, sooner, rows, dispatch, lateJob, rowWords}
@@ -20,7 +21,7 @@ use Rattle.dispatch.specs.declared.Lateness.{Lateness}
 use Rattle.dispatch.specs.declared.Lateness.the-variants.{OnTime, Late}
 use Rattle.dispatch.specs.Plan.{planned, plannedRows, Counts, Runs}
 use Rattle.dispatch.specs.Counters.{jobAt, restFrom, total, Chosen, lateness, noting, answered}
-use Rattle.dispatch.proofs.Order.{earlier, late-append}
+use Rattle.dispatch.proofs.Order.{before-yes, before-no, earlier, late-append}
 use Rattle.dispatch.proofs.Picks.{all-dispatched}
 use Rattle.dispatch.proofs.Trains.{length-trains}
 use Rattle.dispatch.proofs.Rest.{none-started, begin, moved, rowOf, Steps, step}
@@ -60,19 +61,32 @@ late-more (some i) w = go (ltb (w .job .deadline) (finish w))
     go true = tie (before (w .job) i)
     go false = refl
 
+-- one that is on time
+pub on-time : (l : Lateness) (k q d f : ℕ) → f ≤ d → l ≡ noting l k q d f
+on-time OnTime k q d f h = rw (le-ltb d f h)
+on-time (Late i p e) k q d f h = rw (le-ltb d f h)
+
+abbrev due-job : ℕ → ℕ → ℕ → Job
+due-job k q d = record { task = k; number = q; release = 0; deadline = d; run = 0 }
+
+-- of two that are late, the one held stays, or the new one takes its place
+module _ (i p e k q d f : ℕ) (h : d < f) where
+  abbrev of-two : Bool → Bool → Lateness
+  of-two x y = if x then (if y then Late k q d else Late i p e) else Late i p e
+
+  pub stays : e ≤ d → (d ≤ e → i ≤ k) → Late i p e ≡ noting (Late i p e) k q d f
+  unfolding before
+  stays a b = sym (ap₂ of-two (lt-ltb d f h) (before-no (due-job k q d) (due-job i p e) a b))
+
+  pub takes-over : d ≤ e → (e ≤ d → k < i) → Late k q d ≡ noting (Late i p e) k q d f
+  unfolding before
+  takes-over a b = sym (ap₂ of-two (lt-ltb d f h) (before-yes (due-job k q d) (due-job i p e) a b))
+
 answered-is : (n : ℕ) (o : Option Job) → answered n (lateness o) ≡ timing n o
 answered-is n none = refl
 answered-is n (some j) = refl
 
 -- ---- the loop
-
-pub counts : (w c : List ℕ) (m n : ℕ) → length w ≡ 4 * m → n ≡ total c m 0 → n < 2 ^ 39 → Counts w c n
-unfolding plannedRows
-counts w c m n ew e h =
-    record {
-      rows = λ f. e ∙ sym (length-trains w f c m ew) ∙ sym (all-dispatched (trains (planned f c) 0 (tasksOf w)));
-      small = h;
-    }
 
 -- k of n rows, those of done, are written to out, which was out₀
 pub record State (w f c out₀ : List ℕ) (m n : ℕ) (out nx : List ℕ) (t : ℕ) (l : Lateness) (k : ℕ) : Type 0 where

@@ -1,5 +1,5 @@
 -- The walk over the tasks, from the last down, that finds the next job.
-use mathlib.Core.Path.{_≡_, refl, sym, ap, ap₂, _∙_}
+use mathlib.Core.Path.{_≡_, refl, sym, ap, subst, _∙_}
 use Prim.Native.Nat.{ℕ, zero, suc, _+_, _-_, _*_, _^_, _≤_, _<_, min, max}
 use native.Mathlib.Omega.{arith}
 use mathlib.Core.Bool.{Bool, true, false}
@@ -51,6 +51,16 @@ pick-one s j js h e = pick-come s j js h ∙ ap (sooner j) e
 
 -- ---- task i in front of those after it
 
+-- the next job of task i: released at r, it could start at a, and is due v after its release
+pub record Offer (w f c nx : List ℕ) (t m i r a v : ℕ) : Type 0 where
+  pub is-task : i < m
+  pub live : getD nx i 0 < getD c i 0
+  pub few : getD c i 0 < 2 ^ 32
+  pub comes : r ≡ releaseAt w f i (getD nx i 0)
+  pub early : r < 2 ^ 49
+  pub starts : a ≡ max t r
+  pub due-in : v ≡ getD w (4 * i + 1) 0
+
 module _ (w f c nx : List ℕ) (t m : ℕ) where
   abbrev rest : ℕ → List Job
   rest i = restFrom w f c nx (m - i) i
@@ -92,6 +102,15 @@ module _ (w f c nx : List ℕ) (t m : ℕ) where
         ap (ready t) left
         ∙ ready-train t (getD c i 0 - getD nx i 0 - 1) (getD nx i 0) (releaseAt w f i (getD nx i 0)) i (taskIn w i) (rest (i + 1))
 
+  -- ---- the walk's end, where there is a job
+
+  pub chosen : (i : ℕ) (x : Turn) → i ≤ 0 → 0 < length (restFrom w f c nx m 0) → Best w f c nx t m i x → Chosen w f c nx t m 0 x
+  chosen i x h l (nobody e s) =
+      let z : 0 ≡ i = omega arith in
+      let n : m - 0 ≡ m = omega arith in
+      absurd (omega (arith, ap length (ap rest z ∙ e), ap (λ (k : ℕ). length (restFrom w f c nx k 0)) n))
+  chosen i x h l (somebody ch) = let z : i ≡ 0 = omega arith in subst (λ (k : ℕ). Chosen w f c nx t m k x) z ch
+
   -- ---- a step of the walk
 
   pub best-none : (x : Turn) → x .start ≡ 18446744073709551615 → Best w f c nx t m m x
@@ -106,36 +125,39 @@ module _ (w f c nx : List ℕ) (t m : ℕ) where
         from = omega (arith, ch .from);
         is-task = ch .is-task;
         live = ch .live;
+        few = ch .few;
         soon = ch .soon;
         starts = ap (ready t) (rest-done i h d) ∙ ch .starts;
         due-then = ch .due-then;
         picked = ap (pick (x .start)) (rest-done i h d) ∙ ch .picked;
       })
 
-  module _ (i : ℕ) (x : Turn) (h : i < m) (l : getD nx i 0 < getD c i 0) (early : releaseAt w f i (getD nx i 0) < 2 ^ 49) where
-    new : (a d : ℕ) → a ≡ max t (head i .release) → d ≡ head i .deadline → ready t (head i ∷ rest (i + 1)) ≡ a
-        → pick a (head i ∷ rest (i + 1)) ≡ some (head i) → Best w f c nx t m i (record { task = i; start = a; due = d })
-    new a d ea ed er ep =
+  -- it has one
+  module _ (i r a v : ℕ) (x : Turn) (O : Offer w f c nx t m i r a v) where
+    new : ready t (head i ∷ rest (i + 1)) ≡ a → pick a (head i ∷ rest (i + 1)) ≡ some (head i)
+        → Best w f c nx t m i (record { task = i; start = a; due = r + v })
+    new es ep =
         somebody
         (record {
           from = omega arith;
-          is-task = h;
-          live = l;
+          is-task = O .is-task;
+          live = O .live;
+          few = O .few;
           soon = omega arith;
-          starts = ready-left i h l ∙ er;
-          due-then = ed;
-          picked = pick-left i h l a ∙ ep;
+          starts = ready-left i (O .is-task) (O .live) ∙ es;
+          due-then = omega arith;
+          picked = pick-left i (O .is-task) (O .live) a ∙ ep;
         })
 
     -- it goes before the others
-    pub best-new : (a d : ℕ) → a ≡ max t (head i .release) → d ≡ head i .deadline → a ≤ x .start → (x .start ≤ a → d ≤ x .due)
-        → Best w f c nx t m (i + 1) x → Best w f c nx t m i (record { task = i; start = a; due = d })
+    pub best-new : a ≤ x .start → (x .start ≤ a → r + v ≤ x .due) → Best w f c nx t m (i + 1) x
+        → Best w f c nx t m i (record { task = i; start = a; due = r + v })
     unfolding pick
-    best-new a d ea ed p q (nobody e g) =
-        new a d ea ed (ap (λ (js : List Job). ready t (head i ∷ js)) e ∙ ready-one t (head i) ∙ sym ea)
+    best-new p q (nobody e g) =
+        new (ap (λ (js : List Job). ready t (head i ∷ js)) e ∙ ready-one t (head i) ∙ omega arith)
         (pick-one a (head i) (rest (i + 1)) (omega arith) (ap (pick a) e))
-    best-new a d ea ed p q (somebody ch) =
-        new a d ea ed (ready-more t (x .start) (head i) (head (x .task)) (rest (i + 1)) (ch .picked) ∙ omega (arith, ch .starts))
+    best-new p q (somebody ch) =
+        new (ready-more t (x .start) (head i) (head (x .task)) (rest (i + 1)) (ch .picked) ∙ omega (arith, ch .starts))
         (split (x .start) a
         (λ g.
         let s : x .start ≡ a = omega arith in
@@ -146,20 +168,23 @@ module _ (w f c nx : List ℕ) (t m : ℕ) where
         (λ g. pick-one a (head i) (rest (i + 1)) (omega arith) (not-yet t a (rest (i + 1)) (omega arith) (omega (arith, ch .starts)))))
 
     -- it does not
-    pub best-old : (a d : ℕ) → a ≡ max t (head i .release) → d ≡ head i .deadline → a < 18446744073709551615 → x .start ≤ a → (a ≤ x .start → x .due < d)
-        → Best w f c nx t m (i + 1) x → Best w f c nx t m i x
-    best-old a d ea ed s p q (nobody e g) = absurd (omega arith)
-    best-old a d ea ed s p q (somebody ch) =
+    pub best-old : t < 2 ^ 63 → x .start ≤ a → (a ≤ x .start → x .due < r + v) → Best w f c nx t m (i + 1) x → Best w f c nx t m i x
+    best-old th p q (nobody e g) = absurd (omega arith)
+    best-old th p q (somebody ch) =
         somebody
         (record {
           from = omega (arith, ch .from);
           is-task = ch .is-task;
           live = ch .live;
+          few = ch .few;
           soon = ch .soon;
-          starts = ready-left i h l ∙ ready-more t (x .start) (head i) (head (x .task)) (rest (i + 1)) (ch .picked) ∙ omega (arith, ch .starts);
+          starts =
+              ready-left i (O .is-task) (O .live)
+              ∙ ready-more t (x .start) (head i) (head (x .task)) (rest (i + 1)) (ch .picked)
+              ∙ omega (arith, ch .starts);
           due-then = ch .due-then;
           picked =
-              pick-left i h l (x .start)
+              pick-left i (O .is-task) (O .live) (x .start)
               ∙ split a (x .start)
               (λ g.
               pick-come (x .start) (head i) (rest (i + 1)) (omega arith)

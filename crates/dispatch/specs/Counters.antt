@@ -46,6 +46,7 @@ pub record Chosen (w f c nx : List ℕ) (t m i : ℕ) (x : Turn) : Type 0 where
   pub from : i ≤ x .task
   pub is-task : x .task < m
   pub live : getD nx (x .task) 0 < getD c (x .task) 0
+  pub few : getD c (x .task) 0 < 2 ^ 32
   pub soon : x .start ≤ max t (2 ^ 49)
   pub starts : ready t (restFrom w f c nx (m - i) i) ≡ x .start
   pub due-then : x .due ≡ jobAt w f (x .task) (getD nx (x .task) 0) .deadline

@@ -1,12 +1,12 @@
 -- The loop that writes the rows.
-use mathlib.Core.Path.{_≡_, refl, sym, ap, ap₂, subst, _∙_}
-use Prim.Native.Nat.{ℕ, zero, suc, _+_, _-_, _*_, _^_, _≤_, _<_, max}
+use mathlib.Core.Path.{_≡_, refl, sym, ap, ap₂, _∙_}
+use Prim.Native.Nat.{ℕ, suc, _+_, _-_, _*_, _^_, _≤_, _<_}
 use native.Mathlib.Omega.{arith}
-use mathlib.Core.Bool.{Bool, true, false, _&&_, _||_}
+use mathlib.Core.Bool.{Bool, true, false}
 use mathlib.Core.List.{List, [], _∷_, _++_, append-assoc, append-nil}
 use mathlib.Core.Option.{Option, none, some}
 use lib.Dec.{ltb}
-use lib.ListN.{length, getD, take, drop, set, length-append, length-drop, length-set}
+use lib.ListN.{length, getD, take, drop, length-append, length-drop, length-set}
 use lib.Seq.{take-at, drop-at, drop-drop}
 use borrow.Author.Tests.{lt-ltb, le-ltb}
 use Rattle.rules.specs.Choice.{if_then_else_}
@@ -20,10 +20,9 @@ use Rattle.dispatch.specs.declared.Turn.{Turn}
 use Rattle.dispatch.specs.declared.Lateness.{Lateness}
 use Rattle.dispatch.specs.declared.Lateness.the-variants.{OnTime, Late}
 use Rattle.dispatch.specs.Plan.{planned, plannedRows, Counts, Runs}
-use Rattle.dispatch.specs.Counters.{jobAt, restFrom, total, Chosen, lateness, noting, answered}
+use Rattle.dispatch.specs.Counters.{restFrom, Chosen, lateness, noting, answered}
 use Rattle.dispatch.proofs.Order.{before-yes, before-no, earlier, late-append}
 use Rattle.dispatch.proofs.Picks.{all-dispatched}
-use Rattle.dispatch.proofs.Trains.{length-trains}
 use Rattle.dispatch.proofs.Rest.{none-started, begin, moved, rowOf, Steps, step}
 
 -- ---- the words of rows

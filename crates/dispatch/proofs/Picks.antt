@@ -1,17 +1,16 @@
 -- What is ready, what is picked, and that every job gets a row.
 use mathlib.Core.Path.{_≡_, refl, sym, ap, _∙_}
-use Prim.Native.Nat.{ℕ, zero, suc, _+_, _≤_, _<_, min, max}
+use Prim.Native.Nat.{ℕ, zero, suc, _+_, _≤_, _<_, max}
 use native.Mathlib.Omega.{arith}
-use mathlib.Core.Bool.{Bool, true, false, _&&_}
+use mathlib.Core.Bool.{Bool, true, false}
 use mathlib.Core.List.{List, [], _∷_}
 use mathlib.Core.Option.{Option, none, some}
-use lib.Dec.{leb, eqb}
 use lib.ListN.{length}
 use borrow.Author.Tests.{le-leb, lt-leb, eq-eqb}
 use Rattle.rules.specs.Choice.{if_then_else_}
 use Rattle.rules.specs.Dispatch.{Job, Row, before, sooner, pick, same, without, earliest, ready, rows, dispatch}
 use Rattle.rules.proofs.Tests.{true-is-not-false}
-use Rattle.dispatch.proofs.Order.{split, earlier, earlier-none}
+use Rattle.dispatch.proofs.Order.{split}
 
 -- ---- a pick
 

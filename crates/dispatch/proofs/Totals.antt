@@ -1,11 +1,10 @@
 -- How many jobs there are, counted from the last task down.
-use mathlib.Core.Path.{_≡_, refl, sym, ap, _∙_}
-use Prim.Native.Nat.{ℕ, zero, suc, _+_, _-_, _*_, _^_, _/_, _≤_, _<_}
+use mathlib.Core.Path.{_≡_, sym, ap, _∙_}
+use Prim.Native.Nat.{ℕ, suc, _+_, _-_, _*_, _^_, _≤_, _<_}
 use native.Mathlib.Omega.{arith}
 use mathlib.Core.List.{List}
-use lib.ListN.{length, getD}
+use lib.ListN.{getD}
 use Rattle.rules.specs.Task.{tasksOf}
-use Rattle.rules.specs.Dispatch.{dispatch}
 use Rattle.rules.specs.Jobs.{trains}
 use Rattle.rules.specs.Table.{Valid}
 use Rattle.dispatch.specs.Plan.{planned, plannedRows, Counts}

@@ -1,21 +1,19 @@
 -- Trains of jobs: the first of a train stands for all of it; the trains of two plans that agree are the same.
 use mathlib.Core.Path.{_≡_, refl, sym, ap, ap₂, _∙_}
-use Prim.Native.Nat.{ℕ, zero, suc, _+_, _-_, _*_, _≤_, _<_, min, max}
-use native.Mathlib.Nat.{zero-add}
+use Prim.Native.Nat.{ℕ, zero, suc, _+_, _*_, _≤_, _<_, min, max}
 use native.Mathlib.Omega.{arith}
-use mathlib.Core.Bool.{Bool, true, false, _&&_}
+use mathlib.Core.Bool.{Bool, false}
 use mathlib.Core.List.{List, [], _∷_, _++_}
-use mathlib.Core.Option.{Option, none, some}
-use lib.Dec.{eqb}
+use mathlib.Core.Option.{Option, some}
 use lib.ListN.{length, getD, length-append}
-use borrow.Author.Tests.{eq-eqb, ne-eqb}
+use borrow.Author.Tests.{ne-eqb}
 use Rattle.rules.specs.Choice.{if_then_else_}
 use Rattle.rules.specs.Task.{Task, tasksOf}
-use Rattle.rules.specs.Dispatch.{Job, sooner, pick, same, without, earliest, ready}
+use Rattle.rules.specs.Dispatch.{Job, sooner, pick, same, without, earliest, ready, dispatch}
 use Rattle.rules.specs.Jobs.{Train, train, trains}
 use Rattle.rules.specs.Table.{taskIn, tasksFrom}
 use Rattle.rules.proofs.Tables.{tasks-are}
-use Rattle.dispatch.specs.Plan.{planned}
+use Rattle.dispatch.specs.Plan.{planned, plannedRows}
 use Rattle.dispatch.specs.Counters.{total}
 use Rattle.dispatch.proofs.Order.{split, before-no, earlier, earlier-assoc}
 use Rattle.dispatch.proofs.Picks.{pick-come, pick-not, same-self, without-first, without-later}
@@ -102,6 +100,12 @@ trains-from p p′ w (suc n) k h =
 pub same-trains : (p p′ : ℕ → Task → Train) (w : List ℕ) (m : ℕ) → length w ≡ 4 * m → ((i : ℕ) → i < m → p i (taskIn w i) ≡ p′ i (taskIn w i))
     → trains p 0 (tasksOf w) ≡ trains p′ 0 (tasksOf w)
 same-trains p p′ w m e h = rw (tasks-are w m e) (trains-from p p′ w m 0 (λ i a b. h i (omega arith)))
+
+-- so the rows of two arrays are those of any plan that agrees with them
+pub rows-of-plan : (p : ℕ → Task → Train) (w f c : List ℕ) (m : ℕ) → length w ≡ 4 * m
+    → ((i : ℕ) → i < m → planned f c i (taskIn w i) ≡ p i (taskIn w i)) → plannedRows w f c ≡ dispatch (trains p 0 (tasksOf w))
+unfolding plannedRows
+rows-of-plan p w f c m e h = ap dispatch (same-trains (planned f c) p w m e h)
 
 length-from : (w f c : List ℕ) (n k : ℕ) → length (trains (planned f c) k (tasksFrom w n k)) ≡ total c n k
 unfolding trains tasksFrom total

@@ -1,6 +1,6 @@
 -- Trains given by two arrays, and what is promised of their rows.
 use mathlib.Core.Path.{_≡_}
-use Prim.Native.Nat.{ℕ, zero, suc, _+_, _^_, _<_}
+use Prim.Native.Nat.{ℕ, _^_, _<_}
 use mathlib.Core.List.{List, _++_}
 use lib.ListN.{length, getD, drop}
 use Rattle.rules.specs.Task.{Task, tasksOf}

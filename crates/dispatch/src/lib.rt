@@ -2,11 +2,12 @@
 ghost use mathlib.Core.Path.{_≡_};
 ghost use mathlib.Core.List.{_∷_, _++_};
 ghost use Prim.Native.Nat.{_+_, _*_, _/_, _^_, _<_, _≤_, max};
-ghost use lib.ListN.{length, getD, take, drop};
+ghost use lib.ListN.{length, take, drop};
 ghost use Rattle.rules.specs.Table.{Valid};
 ghost use Rattle.dispatch.specs.Plan.{plannedRows, Counts, Runs};
-ghost use Rattle.dispatch.specs.Counters.{releaseAt, restFrom, total, Chosen, Best, noting, answered};
+ghost use Rattle.dispatch.specs.Counters.{releaseAt, restFrom, Chosen, Best, noting, answered};
 use rules::ScheduleAnswer;
+use table::wide;
 
 // The next job to start: its task, its start and its deadline.
 pub struct Turn {
@@ -19,12 +20,6 @@ pub struct Turn {
 pub enum Lateness {
     OnTime,
     Late { task: u64, job: u64, deadline: u64 },
-}
-
-fn wide(x: u32) -> u64
-    ensures { λ r. ⌜ (r ≡ x) × (r < 2 ^ 32) ⌝ }
-{
-    x as u64
 }
 
 fn later(a: u64, b: u64) -> u64

@@ -4,47 +4,34 @@ use Rattle.dispatch.proofs.Sums.{product}
 use borrow.Author.Needs.{needs}
 use Rattle.dispatch.proofs.release.Statement.{statement}
 use Rattle.dispatch.proofs.release.Tie as tie
-use Rattle.dispatch.proofs.release.Reads as reads
-use Rattle.dispatch.proofs.release.Lts as lts
-use Rattle.dispatch.proofs.wide.Reads as wide-reads
 
--- src/lib.rt:43:18
 mul-wide : tie.Need-mul-wide
 mul-wide c = search needs
 
--- src/lib.rt:43:18
 element-copy-out-wide : tie.Need-element-copy-out-wide
 element-copy-out-wide c = search needs
 
--- src/lib.rt:43:9
 wide-requires : tie.Need-wide-requires
 wide-requires c κs = search needs
 
--- src/lib.rt:44:24
 mul-wide-2 : tie.Need-mul-wide-2
 mul-wide-2 c = search needs
 
--- src/lib.rt:44:24
 add-wide : tie.Need-add-wide
 add-wide c = search needs
 
--- src/lib.rt:44:18
 mul-wide-3 : tie.Need-mul-wide-3
 mul-wide-3 c = search needs
 
--- src/lib.rt:44:18
 shared-slice-read-wide : tie.Need-shared-slice-read-wide
 shared-slice-read-wide c = search needs
 
--- src/lib.rt:44:9
 wide-requires-2 : tie.Need-wide-requires-2
 wide-requires-2 c κs = search needs
 
--- src/lib.rt:45:9
 wide-requires-3 : tie.Need-wide-requires-3
 wide-requires-3 c κs = search needs
 
--- src/lib.rt:45:9
 small : (c : tie.After-wide3) → c .wide3 .result * c .before .wide2 .result ≤ 281470681677825
 small c =
     let s = c .before .before .before .before .before .before in
@@ -53,11 +40,9 @@ small c =
 mul-result : tie.Need-mul-result
 mul-result c = omega (arith, small c)
 
--- src/lib.rt:45:5
 add-result : tie.Need-add-result
 add-result c = omega (arith, small c)
 
--- src/lib.rt:38:1
 returns : tie.Need-returns
 returns c = (cc, omega (arith, small c))
 

@@ -2,18 +2,10 @@ use denote.Ref.{now}
 use mathlib.Core.Path.{ap}
 use native.Mathlib.Omega.{arith}
 use borrow.Author.Needs.{needs}
-use Prim.Native.Nat.{ℕ, _+_, _-_, _*_, _≤_, _<_, _/_}
+use Prim.Native.Nat.{ℕ, _+_, _-_}
 use Rattle.dispatch.proofs.Loop.{State, state-begin, state-length, state-more, state-end}
 use Rattle.dispatch.proofs.run.Statement.{statement}
 use Rattle.dispatch.proofs.run.Tie as tie
-use Rattle.dispatch.proofs.run.Reads as reads
-use Rattle.dispatch.proofs.run.Lts as lts
-use Rattle.dispatch.proofs.answer.Reads as answer-reads
-use Rattle.dispatch.proofs.choose.Reads as choose-reads
-use Rattle.dispatch.proofs.noted.Reads as noted-reads
-use Rattle.dispatch.proofs.put_row.Reads as put-row-reads
-use Rattle.dispatch.proofs.total_jobs.Reads as total-jobs-reads
-use Rattle.dispatch.proofs.wide.Reads as wide-reads
 
 abbrev Inv-loop : tie.InvT-loop
 Inv-loop table first count rows₀ m n next₀ t₀ late₀ k₀ rows next t late k = State table first count rows₀ m n rows next t late k

@@ -1,11 +1,11 @@
 -- The tasks from number i on, as the loops that count down meet them: none, one more, all.
-use mathlib.Core.Path.{_≡_, refl, sym, ap, ap₂, _∙_}
+use mathlib.Core.Path.{_≡_, sym, ap, _∙_}
 use Prim.Native.Nat.{ℕ, suc, _+_, _-_, _*_, max, _≤_, _<_}
 use native.Mathlib.Omega.{arith}
 use mathlib.Core.List.{List, [], _∷_}
-use lib.ListN.{length, getD}
+use lib.ListN.{getD}
 use Rattle.rules.specs.Task.{Task, tasksOf}
-use Rattle.rules.specs.Table.{taskIn, tasksFrom, Valid}
+use Rattle.rules.specs.Table.{taskIn, tasksFrom}
 use Rattle.rules.specs.Demand.{due, Due, wait, Wait, work}
 use Rattle.rules.proofs.Tables.{tasks-are}
 use Rattle.demand.specs.Parts.{taskCount, ValidTable, taskOf, Ranged, workOf}

@@ -1,5 +1,5 @@
 -- What the call answers, and that its contract leaves one answer.
-use mathlib.Core.Path.{_≡_, sym, ap, _∙_}
+use mathlib.Core.Path.{_≡_, refl, sym, ap, subst, _∙_}
 use Prim.Native.Nat.{ℕ}
 use mathlib.Core.List.{List}
 use mathlib.Core.Option.{Option, none, some}
@@ -11,6 +11,8 @@ use Rattle.rules.specs.Answers.{verdictAnswer}
 use Rattle.rules.specs.declared.Refusal.{Refusal}
 use Rattle.rules.specs.declared.Verdict.{Verdict}
 use Rattle.rules.specs.declared.VerdictAnswer.{VerdictAnswer}
+use Rattle.promises.specs.Demands.{One, KeptBy}
+use Rattle.promises.proofs.Kept.{kept-by}
 
 module _ (w : List ℕ) where
   by-refusal : Option Refusal → VerdictAnswer
@@ -24,6 +26,10 @@ module _ (w : List ℕ) where
   unfolding verdictAnswer by-refusal
   refuses r e = sym (ap by-refusal e)
 
-  -- of two answers that meet the contract, one is the other
-  pub one-answer : (a b : VerdictAnswer) → a ≡ verdictAnswer w → b ≡ verdictAnswer w → a ≡ b
-  one-answer a b p q = p ∙ sym q
+  -- it is kept
+  pub keeps : (a : VerdictAnswer) → a ≡ verdictAnswer w → KeptBy w a
+  keeps a e = subst (KeptBy w) (sym e) (kept-by w)
+
+  -- and the contract leaves one answer
+  pub one-answer : One VerdictAnswer (λ a. (a ≡ verdictAnswer w) × KeptBy w a)
+  one-answer = record { outcome = verdictAnswer w; as-due = (refl, kept-by w); no-other = λ a c. c .0 }

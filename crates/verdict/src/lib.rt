@@ -3,6 +3,7 @@ ghost use mathlib.Core.Path.{_≡_};
 ghost use Rattle.rules.specs.Task.{tasksOf};
 ghost use Rattle.rules.specs.Demand.{firstFail, span, verdict};
 ghost use Rattle.rules.specs.Answers.{verdictAnswer};
+ghost use Rattle.promises.specs.Demands.{KeptBy};
 ghost use Rattle.demand.specs.Parts.{ValidTable};
 ghost use Rattle.verdict.specs.Searches.{answerOf};
 use demand::blocker_at;
@@ -73,9 +74,10 @@ pub fn judge_table(table: &[u32]) -> Verdict
     }
 }
 
-// The verdict on any table.
+// The verdict on any table: the paper's, and true of every arrival pattern.
 pub fn verdict(table: &[u32]) -> VerdictAnswer
-    ensures { λ r. ⌜ r ≡ verdictAnswer (now (table .entry)) ⌝ }
+    ensures says { λ r. ⌜ r ≡ verdictAnswer (now (table .entry)) ⌝ }
+    ensures keeps { λ r. ⌜ KeptBy (now (table .entry)) r ⌝ }
 {
     let answer = check_table(table);
     match answer {

@@ -1,4 +1,3 @@
-use native.Mathlib.Omega.{arith}
 use borrow.Author.Needs.{needs}
 use Rattle.demand.proofs.Terms.{nothing-due, something-due}
 use Rattle.demand.proofs.fails_at.Statement.{statement}

@@ -1,8 +1,6 @@
 use mathlib.Core.Path.{sym, _∙_}
 use Prim.Native.Nat.{_-_, _≤_}
 use native.Mathlib.Omega.{arith}
-use native.Mathlib.Numerals.{add-one}
-use borrow.Author.Needs.{needs}
 use Rattle.rules.specs.Task.{tasksOf}
 use Rattle.rules.specs.Demand.{fails, firstFail}
 use Rattle.rules.proofs.Search.{NonePasses, none-until}

@@ -1,6 +1,6 @@
 use borrow.Author.Needs.{needs}
 use Rattle.table.proofs.Answers.{not-refused, valid, refused-by}
-use Rattle.verdict.proofs.Answered.{judges, refuses}
+use Rattle.verdict.proofs.Answered.{judges, refuses, keeps}
 use Rattle.verdict.proofs.verdict.Statement.{statement}
 use Rattle.verdict.proofs.verdict.Tie as tie
 
@@ -19,10 +19,13 @@ enum-known-answer c = search needs
 returns : tie.Need-returns
 returns c =
     let a = c .before in
-    judges _ _ (not-refused _ (a .before .before .check-table .ensures) (a .enum-told .given .1)) (c .judge-table .ensures)
+    let says = judges _ _ (not-refused _ (a .before .before .check-table .ensures) (a .enum-told .given .1)) (c .judge-table .ensures) in
+    (says, keeps _ _ says)
 
 returns-2 : tie.Need-returns-2
-returns-2 c = refuses _ _ (refused-by _ _ (c .before .before .before .check-table .ensures) (c .before .answer .given .1))
+returns-2 c =
+    let says = refuses _ _ (refused-by _ _ (c .before .before .before .check-table .ensures) (c .before .answer .given .1)) in
+    (says, keeps _ _ says)
 
 pub verdict-spec : {M : Type 1} → statement M
 verdict-spec =

@@ -1,0 +1,110 @@
+-- What the dispatcher's choice does: when the next job starts, and which one it is.
+use mathlib.Core.Path.{_≡_, refl}
+use mathlib.Core.Option.{Option, none, some}
+use Prim.Native.Nat.{ℕ, min, _≤_, _<_}
+use mathlib.Core.List.{List, [], _∷_, List·Memᴰ, List·Memᴰ·head, List·Memᴰ·tail, List·Memᴰ·not-nil}
+use mathlib.Core.Bool.{Bool, true, false, _&&_, _||_}
+use native.Mathlib.Omega.{arith}
+use borrow.Author.Tests.{eqb-true, eqb-false, leb-true, leb-false, ltb-true, ltb-false}
+use lib.Dec.{eqb, leb, ltb}
+use Rattle.rules.specs.Choice.{if_then_else_}
+use Rattle.rules.specs.Dispatch.{Job, before, sooner, pick, earliest}
+use Rattle.rules.proofs.Tests.{true-is-not-false}
+use Rattle.rules.proofs.Taken.{mem-cons}
+
+-- no job of a list is released before the earliest release
+pub earliest-least : (j : Job) (js : List Job) (i : Job) → List·Memᴰ i (j ∷ js) → earliest j js ≤ i .release
+unfolding earliest
+earliest-least j [] i (List·Memᴰ·head e) = rw e (omega arith)
+earliest-least j [] i (List·Memᴰ·tail m) = absurd (List·Memᴰ·not-nil m)
+earliest-least j (k ∷ js) i (List·Memᴰ·head e) = rw e (omega arith)
+earliest-least j (k ∷ js) i (List·Memᴰ·tail m) = let ih = earliest-least k js i m in omega arith
+
+-- some job of the list is released then
+pub earliest-some : (j : Job) (js : List Job) → (i : Job) × List·Memᴰ i (j ∷ js) × (i .release ≡ earliest j js)
+unfolding earliest
+earliest-some j [] = (j, List·Memᴰ·head refl, refl)
+earliest-some j (k ∷ js) = go (earliest-some k js) (leb (j .release) (earliest k js)) refl
+  where
+    go : (i : Job) × List·Memᴰ i (k ∷ js) × (i .release ≡ earliest k js) → (b : Bool) → leb (j .release) (earliest k js) ≡ b
+        → (i : Job) × List·Memᴰ i (j ∷ k ∷ js) × (i .release ≡ min (j .release) (earliest k js))
+    go x true e = (j, List·Memᴰ·head refl, omega (arith, leb-true))
+    go x false e = (x .0, List·Memᴰ·tail (x .1), omega (arith, leb-false))
+
+-- j is not behind i: its deadline is no later, and where the deadlines are equal its task is no higher
+pub record Ahead (j i : Job) : Type 0 where
+  pub deadline : j .deadline ≤ i .deadline
+  pub task : j .deadline ≡ i .deadline → j .task ≤ i .task
+
+pub ahead-self : (j : Job) → Ahead j j
+ahead-self j = record { deadline = omega arith; task = λ e. omega arith }
+
+pub ahead-trans : (k j i : Job) → Ahead k j → Ahead j i → Ahead k i
+ahead-trans k j i a b = record {
+  deadline = omega arith;
+  task = λ e. let p = a .task (omega arith) in let q = b .task (omega arith) in omega arith;
+}
+
+-- by the test: the one that goes before is ahead; the other is ahead where it does not
+pub before-true : (i j : Job) → before i j ≡ true → Ahead i j
+unfolding before
+before-true i j e = go (ltb (i .deadline) (j .deadline)) refl (eqb (i .deadline) (j .deadline)) refl e
+  where
+    go : (a : Bool) → ltb (i .deadline) (j .deadline) ≡ a → (b : Bool) → eqb (i .deadline) (j .deadline) ≡ b
+        → a || (b && ltb (i .task) (j .task)) ≡ true → Ahead i j
+    go true p b q h = record { deadline = omega (arith, ltb-true); task = λ x. omega (arith, ltb-true) }
+    go false p true q h = record { deadline = omega (arith, eqb-true); task = λ x. omega (arith, ltb-true) }
+    go false p false q h = let z : _≡_ {A = ℕ} 0 1 = cc in absurd (omega arith)
+
+pub before-false : (i j : Job) → before i j ≡ false → Ahead j i
+unfolding before
+before-false i j e = go (ltb (i .deadline) (j .deadline)) refl (eqb (i .deadline) (j .deadline)) refl e
+  where
+    go : (a : Bool) → ltb (i .deadline) (j .deadline) ≡ a → (b : Bool) → eqb (i .deadline) (j .deadline) ≡ b
+        → a || (b && ltb (i .task) (j .task)) ≡ false → Ahead j i
+    go true p b q h = true-is-not-false h
+    go false p true q h = record { deadline = omega (arith, ltb-false); task = λ x. omega (arith, ltb-false) }
+    go false p false q h = record { deadline = omega (arith, ltb-false); task = λ x. absurd (omega (arith, eqb-false)) }
+
+-- j is of js, is released by s, and is ahead of every job of js that is released by s
+pub record Picked (s : ℕ) (js : List Job) (j : Job) : Type 0 where
+  pub mem : List·Memᴰ j js
+  pub come : j .release ≤ s
+  pub first : (i : Job) → List·Memᴰ i js → i .release ≤ s → Ahead j i
+
+pub data Pick (s : ℕ) (js : List Job) : Option Job → Type 0 where
+  nobody : ((i : Job) → List·Memᴰ i js → s < i .release) → Pick s js none
+  somebody : {j : Job} → Picked s js j → Pick s js (some j)
+
+-- one job more, which is not released, or is ahead of those that are, or is behind the one picked
+module _ (s : ℕ) (j : Job) (js : List Job) where
+  keep : (i : Job) → Picked s js i → (j .release ≤ s → Ahead i j) → Pick s (j ∷ js) (some i)
+  keep i p h = somebody (record {
+    mem = List·Memᴰ·tail (p .mem);
+    come = p .come;
+    first = mem-cons (λ k. k .release ≤ s → Ahead i k) h (p .first);
+  })
+
+  change : j .release ≤ s → ((i : Job) → List·Memᴰ i js → i .release ≤ s → Ahead j i) → Pick s (j ∷ js) (some j)
+  change r h = somebody (record {
+    mem = List·Memᴰ·head refl;
+    come = r;
+    first = mem-cons (λ k. k .release ≤ s → Ahead j k) (λ x. ahead-self j) h;
+  })
+
+  pick-cons : (b : Bool) → leb (j .release) s ≡ b → (o : Option Job) → Pick s js o → Pick s (j ∷ js) (if b then sooner j o else o)
+  unfolding sooner
+  pick-cons false e none (nobody f) = nobody (mem-cons (λ i. s < i .release) (leb-false _ _ e) f)
+  pick-cons false e (some i) (somebody p) = keep i p (λ r. let l = leb-false (j .release) s e in absurd (omega arith))
+  pick-cons true e none (nobody f) = change (leb-true _ _ e) (λ i m r. let l = f i m in absurd (omega arith))
+  pick-cons true e (some i) (somebody p) = go (before i j) refl
+    where
+      go : (c : Bool) → before i j ≡ c → Pick s (j ∷ js) (if c then some i else some j)
+      go true q = keep i p (λ r. before-true i j q)
+      go false q = change (leb-true _ _ e) (λ k m r. ahead-trans j i k (before-false i j q) (p .first k m r))
+
+-- what `pick` returns
+pub picks : (s : ℕ) (js : List Job) → Pick s js (pick s js)
+unfolding pick
+picks s [] = nobody (λ i m. absurd (List·Memᴰ·not-nil m))
+picks s (j ∷ js) = pick-cons s j js (leb (j .release) s) refl (pick s js) (picks s js)

@@ -4,6 +4,7 @@ pub mod Dispatcher
 pub mod Blockers
 pub mod LateJob
 pub mod Refused
+pub mod Stars
 pub mod Tests
 pub mod Tables
 pub mod Taken

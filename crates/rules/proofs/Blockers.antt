@@ -37,24 +37,30 @@ first-waiting W L k (τ ∷ ts) pos e = go (ltb L (τ .D)) refl (eqb (τ .C - 1)
   where
     later : (L < τ .D → τ .C - 1 ≡ W → ⊥) → (p : ℕ) × First W L (suc k) ts (firstWaiting W L (suc k) ts) p
         → (p : ℕ) × First W L k (τ ∷ ts) (firstWaiting W L (suc k) ts) p
-    later no-head (p, x) = (suc p, record {
-      place = omega arith;
-      known = omega arith;
-      above = x .above;
-      reaches = x .reaches;
-      lowest = elim [ zero ↦ λ h. no-head | suc i ↦ λ h. x .lowest i (omega arith) ];
-    })
+    later no-head (p, x) = (
+      suc p,
+      record {
+        place = omega arith;
+        known = omega arith;
+        above = x .above;
+        reaches = x .reaches;
+        lowest = elim [ zero ↦ λ h. no-head | suc i ↦ λ h. x .lowest i (omega arith) ];
+      },
+    )
 
     go : (a : Bool) → ltb L (τ .D) ≡ a → (c : Bool) → eqb (τ .C - 1) W ≡ c → max (if a then τ .C - 1 else 0) (Wait L ts) ≡ W
         → (Wait L ts ≡ W → (p : ℕ) × First W L (suc k) ts (firstWaiting W L (suc k) ts) p)
         → (p : ℕ) × First W L k (τ ∷ ts) (if a && c then k else firstWaiting W L (suc k) ts) p
-    go true f true g h ih = (0, record {
-      place = omega arith;
-      known = omega arith;
-      above = ltb-true L (τ .D) f;
-      reaches = eqb-true (τ .C - 1) W g;
-      lowest = λ i l. absurd (omega arith);
-    })
+    go true f true g h ih = (
+      0,
+      record {
+        place = omega arith;
+        known = omega arith;
+        above = ltb-true L (τ .D) f;
+        reaches = eqb-true (τ .C - 1) W g;
+        lowest = λ i l. absurd (omega arith);
+      },
+    )
     go true f false g h ih = let n = eqb-false (τ .C - 1) W g in later (λ d. n) (ih (omega arith))
     go false f c g h ih = let n = ltb-false L (τ .D) f in later (λ d. absurd (omega arith)) (ih (omega arith))
 
@@ -100,9 +106,10 @@ blocker-task L ts b = go (ltb 0 (Wait L ts)) refl
         → ((if t then Blocker.Task (firstWaiting (Wait L ts) L 0 ts) else Blocker.Nobody) ≡ Blocker.Task b) ↔ ((0 < Wait L ts) × Blocks L ts b)
     go true e =
         let pos = ltb-true 0 (Wait L ts) e in
-        let x = first-blocks L ts pos in
-        (λ q. (pos, let h : firstWaiting (Wait L ts) L 0 ts ≡ b = cc in subst (Blocks L ts) h x),
-          λ y. ap Blocker.Task (blocks-once L ts _ b x (y .1)))
+        let x = first-blocks L ts pos in (
+          λ q. (pos, let h : firstWaiting (Wait L ts) L 0 ts ≡ b = cc in subst (Blocks L ts) h x),
+          λ y. ap Blocker.Task (blocks-once L ts _ b x (y .1)),
+        )
     go false e =
         let z = ltb-false 0 (Wait L ts) e in
         (λ q. let h : _≡_ {A = ℕ} 0 1 = cc in absurd (omega arith), λ y. absurd (omega arith))

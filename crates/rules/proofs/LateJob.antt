@@ -94,12 +94,12 @@ late-none ws = go (lateJob ws) (names ws)
 -- else it is the job of a late row, and no late row's job goes before it
 pub late-some : (ws : List Row) (j : Job) → lateJob ws ≡ some j
     → ((w : Row) × List·Memᴰ w ws × (late w ≡ true) × (w .job ≡ j))
-      × ((v : Row) → List·Memᴰ v ws → late v ≡ true → before (v .job) j ≡ false)
+    × ((v : Row) → List·Memᴰ v ws → late v ≡ true → before (v .job) j ≡ false)
 late-some ws j = go (lateJob ws) (names ws)
   where
     go : (o : Option Job) → Named ws o → o ≡ some j
         → ((w : Row) × List·Memᴰ w ws × (late w ≡ true) × (w .job ≡ j))
-          × ((v : Row) → List·Memᴰ v ws → late v ≡ true → before (v .job) j ≡ false)
+        × ((v : Row) → List·Memᴰ v ws → late v ≡ true → before (v .job) j ≡ false)
     go none (nobody f) e = let z : _≡_ {A = ℕ} 0 1 = cc in absurd (omega arith)
     go (some i) (somebody x) e =
         let q : i ≡ j = cc in

@@ -11,5 +11,12 @@ pub mod Taken
 pub mod Legal
 pub mod Picked
 pub mod Runs
+pub mod Rest
+pub mod Trains
+pub mod Count
+pub mod Meets
+pub mod Late
+pub mod Misses
+pub mod Least
 pub mod Search
 pub mod Verdicts

@@ -152,10 +152,11 @@ taskOf ts j = taskAt ts (j .task)
 -- the jobs of the trains of all tasks: those on their task's train, with a number below its count
 pub trains-members : (plan : ℕ → Task → Train) (ts : List Task) (j : Job)
     → List·Memᴰ j (trains plan 0 ts)
-      ↔ ((j .task < length ts) × (j .number < plan (j .task) (taskOf ts j) .count) × OnTrain (plan (j .task) (taskOf ts j) .first) (taskOf ts j) j)
-trains-members plan ts j =
-    (λ m. let (k, x) = members-only plan 0 ts j m in of k x (omega arith),
-      λ x. members-has plan 0 ts j (j .task) (record { place = omega arith; known = x .0; counted = x .1; on-train = x .2 }))
+    ↔ ((j .task < length ts) × (j .number < plan (j .task) (taskOf ts j) .count) × OnTrain (plan (j .task) (taskOf ts j) .first) (taskOf ts j) j)
+trains-members plan ts j = (
+  λ m. let (k, x) = members-only plan 0 ts j m in of k x (omega arith),
+  λ x. members-has plan 0 ts j (j .task) (record { place = omega arith; known = x .0; counted = x .1; on-train = x .2 }),
+)
   where
     On : ℕ → Type 0
     On k = (k < length ts) × (j .number < plan (j .task) (taskAt ts k) .count) × OnTrain (plan (j .task) (taskAt ts k) .first) (taskAt ts k) j
@@ -167,9 +168,10 @@ trains-members plan ts j =
 pub concrete-members : (Z : ℕ) (ts : List Task) (j : Job) → AllSound ts
     → List·Memᴰ j (concrete Z ts) ↔ ((j .task < length ts) × (j .release < Z) × OnTrain (taskOf ts j .R) (taskOf ts j) j)
 unfolding concrete concreteTrain
-concrete-members Z ts j sound =
-    (λ m. let x = all .0 m in (x .0, let l = counts (x .0) .0 (x .1) in omega arith, x .2),
-      λ x. all .1 (x .0, counts (x .0) .1 (omega arith), x .2))
+concrete-members Z ts j sound = (
+  λ m. let x = all .0 m in (x .0, let l = counts (x .0) .0 (x .1) in omega arith, x .2),
+  λ x. all .1 (x .0, counts (x .0) .1 (omega arith), x .2),
+)
   where
     all : List·Memᴰ j (trains (concreteTrain Z) 0 ts) ↔ ((j .task < length ts) × (j .number < countBefore Z (taskOf ts j)) × OnTrain (taskOf ts j .R) (taskOf ts j) j)
     all = trains-members (concreteTrain Z) ts j
@@ -198,9 +200,10 @@ within-train : (L : ℕ) (ts : List Task) (j : Job) (r d : ℕ) → r + L ≡ d 
     → namedTrain L (blocker L ts) (j .task) (taskOf ts j) ≡ record { first = r; count = countWithin L (taskOf ts j) }
     → List·Memᴰ j (named L ts) ↔ ((j .task < length ts) × (j .deadline ≤ d) × OnTrain r (taskOf ts j) j)
 within-train L ts j r d f sound e =
-    let all = of-train L ts j r (countWithin L (taskOf ts j)) e in
-    (λ m. let x = all .0 m in (x .0, let l = due-within L r ts j sound (x .0) (x .2) .0 (x .1) in omega arith, x .2),
-      λ x. all .1 (x .0, due-within L r ts j sound (x .0) (x .2) .1 (omega arith), x .2))
+    let all = of-train L ts j r (countWithin L (taskOf ts j)) e in (
+      λ m. let x = all .0 m in (x .0, let l = due-within L r ts j sound (x .0) (x .2) .0 (x .1) in omega arith, x .2),
+      λ x. all .1 (x .0, due-within L r ts j sound (x .0) (x .2) .1 (omega arith), x .2),
+    )
 
 -- without a blocker the named pattern's jobs are those of the tasks' trains from 0 on that are due by L
 pub named-members : (L : ℕ) (ts : List Task) (j : Job) → AllSound ts → blocker L ts ≡ Blocker.Nobody

@@ -3,10 +3,12 @@ use mathlib.Core.Path.{_≡_}
 use Prim.Native.Nat.{ℕ}
 use mathlib.Core.List.{List}
 use Rattle.rules.specs.Answers.{readAnswer, readTable, readRest, writeAnswer, writeBuffer, scheduleAnswer, scheduleBuffer, verdictAnswer, patternAnswer, patternBuffer}
+use Rattle.rules.specs.Report.{reportAnswer, reportBuffer}
 use Rattle.rules.specs.declared.ReadAnswer.{ReadAnswer}
 use Rattle.rules.specs.declared.WriteAnswer.{WriteAnswer}
 use Rattle.rules.specs.declared.ScheduleAnswer.{ScheduleAnswer}
 use Rattle.rules.specs.declared.PatternAnswer.{PatternAnswer}
+use Rattle.rules.specs.declared.ReportAnswer.{ReportAnswer}
 
 -- the reader: its answer, the rest that it hands back, and the lent table
 pub record Reads (text table : List ℕ) (answer : ReadAnswer) (rest exit : List ℕ) : Type 0 where
@@ -28,3 +30,8 @@ pub record Schedules (table : List ℕ) (z : ℕ) (out : List ℕ) (answer : Sch
 pub record Shows (table out : List ℕ) (answer : PatternAnswer) (exit : List ℕ) : Type 0 where
   pub says : answer ≡ patternAnswer table out
   pub leaves : exit ≡ patternBuffer table out
+
+-- the report of one set: its answer and the lent bytes
+pub record Reports (number : ℕ) (text out : List ℕ) (answer : ReportAnswer) (exit : List ℕ) : Type 0 where
+  pub says : answer ≡ reportAnswer number text out
+  pub leaves : exit ≡ reportBuffer number text out

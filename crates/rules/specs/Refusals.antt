@@ -3,7 +3,7 @@ use Prim.Native.Nat.{ℕ}
 use mathlib.Core.List.{List, [], _∷_, _++_}
 use mathlib.Core.Bool.{Bool, true, false}
 use mathlib.Core.Option.{Option, none, some}
-use lib.ListN.{length, drop}
+use lib.ListN.{length, drop, getD}
 use Rattle.rules.specs.declared.Refusal.{Refusal}
 use Rattle.rules.specs.declared.Refusal.the-variants.{NoWord, NotFours, TooManyWords, OutOfRange, BadEnd, TooShort, BadLine, NotMisses}
 
@@ -28,6 +28,10 @@ carriedBy BadEnd = []
 carriedBy TooShort = []
 carriedBy (BadLine l) = l ∷ []
 carriedBy NotMisses = []
+
+-- that value alone, 0 where there is none
+abbrev pub valueOf : Refusal → ℕ
+valueOf r = getD (carriedBy r) 0 0
 
 infix 15 _when_
 -- a refusal, given exactly when its test holds

@@ -6,7 +6,7 @@ use lib.Dec.{ltb, eqb}
 use lib.ListN.{length}
 use Rattle.rules.specs.Choice.{if_then_else_}
 use Rattle.rules.specs.Task.{tasksOf}
-use Rattle.rules.specs.Refusals.{numberOf, answering}
+use Rattle.rules.specs.Refusals.{numberOf, _when_, answering, lent}
 use Rattle.rules.specs.Demand.{verdict}
 use Rattle.rules.specs.Text.{bytes, digits, line, readSet, wordsRead, restRead}
 use Rattle.rules.specs.Answers.{checkRefusal}
@@ -14,6 +14,7 @@ use Rattle.rules.specs.declared.Refusal.{Refusal}
 use Rattle.rules.specs.declared.Refusal.the-variants.{NoWord, NotFours, TooManyWords, OutOfRange, BadEnd, TooShort, BadLine, NotMisses}
 use Rattle.rules.specs.declared.Blocker.{Blocker}
 use Rattle.rules.specs.declared.Verdict.{Verdict}
+use Rattle.rules.specs.declared.ReportAnswer.{ReportAnswer}
 
 -- the longest input
 abbrev pub inputMost : ℕ
@@ -56,7 +57,20 @@ setLines n text =
 unfoldable pub setRest : List ℕ → List ℕ
 setRest text = restRead (readSet text)
 
--- the lines for at most k sets from number n on, until the rest is empty
+-- THE REPORT OF ONE SET. Refusal 6
+unfoldable pub reportRefusal : ℕ → List ℕ → List ℕ → Option Refusal
+reportRefusal n text out = TooShort when ltb (length out) (length (setLines n text))
+
+-- it answers the length of the lines, and how much is left to read
+unfoldable pub reportAnswer : ℕ → List ℕ → List ℕ → ReportAnswer
+reportAnswer n text out =
+    answering (reportRefusal n text out) ReportAnswer.Refused (ReportAnswer.Reported (length (setLines n text)) (length (setRest text)))
+
+-- and writes the lines to the start of the lent bytes
+unfoldable pub reportBuffer : ℕ → List ℕ → List ℕ → List ℕ
+reportBuffer n text out = lent (reportRefusal n text out) (setLines n text) out
+
+-- THE PROGRAM. The lines for at most k sets from number n on, until the rest is empty
 unfoldable pub setsLines : ℕ → ℕ → List ℕ → List ℕ
 setsLines zero n text = []
 setsLines (suc k) n text =

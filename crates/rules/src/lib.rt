@@ -66,3 +66,9 @@ pub enum PatternAnswer {
     Rows(u64),
     Refused(Refusal),
 }
+
+// The report's answer: how many bytes one set's lines take, and how many bytes of the text are left to read.
+pub enum ReportAnswer {
+    Reported { length: u32, left: usize },
+    Refused(Refusal),
+}

@@ -24,7 +24,8 @@ use Rattle.rules.specs.declared.ScheduleAnswer.{ScheduleAnswer}
 use Rattle.rules.specs.declared.PatternAnswer.{PatternAnswer}
 use Rattle.rules.proofs.Tests.{both-true, true-is-not-false}
 use Rattle.rules.proofs.Tables.{table-sound}
-use Rattle.rules.proofs.Search.{Least, found, none-found}
+use Rattle.rules.proofs.Search.{found, none-found}
+use Rattle.rules.proofs.Least.{least-below}
 use Rattle.rules.proofs.Verdicts.{First, NoneIn, none-when, misses-when, meets-when}
 
 -- tests of equality
@@ -99,10 +100,6 @@ each : (bs : List Bool) → every bs ≡ true → Each bs
 each [] e = tt
 each (b ∷ bs) e = let x = both-true b (every bs) e in (x .0, each bs (x .1))
 
--- least-below, for now
-axiom least-below : (ts : List Task) → AllSound ts → (σ : ℕ) → 1 ≤ σ → closes σ ts ≡ true
-    → (L : ℕ) → fails L ts ≡ true → ((M : ℕ) → 1 ≤ M → M < L → fails M ts ≡ false) → L < σ
-
 -- a set that closes at σ and of which no length below σ fails meets, with that span where it is the first to close
 module _ (ts : List Task) (sound : AllSound ts) where
   none-fails : (σ : ℕ) → 1 ≤ σ → closes σ ts ≡ true → least (λ L. fails L ts) (σ - 1) 1 ≡ none → NoneIn (λ L. fails L ts)
@@ -146,9 +143,9 @@ module _ (w : List ℕ) (f : tableRefusal w ≡ none) (n : ℕ) (words out : Lis
   unfolding scheduleAnswer scheduleBuffer scheduleRefusal
   schedule-right z low high e i l =
       let r : scheduleRefusal w z out ≡ none =
-        (let m = length-rowWords (scheduleRows w z) in
-        let k = ap (λ (xs : List ℕ). length xs) i in
-        rw (f, ne-eqb z 0 (omega arith), le-ltb endMost z high, le-ltb (length out) (4 * length (scheduleRows w z)) (omega arith)))
+      (let m = length-rowWords (scheduleRows w z) in
+      let k = ap (λ (xs : List ℕ). length xs) i in
+      rw (f, ne-eqb z 0 (omega arith), le-ltb endMost z high, le-ltb (length out) (4 * length (scheduleRows w z)) (omega arith)))
       in
       (rw (r, l, e), rw (r, i) (filled words out fits))
 
@@ -157,9 +154,9 @@ module _ (w : List ℕ) (f : tableRefusal w ≡ none) (n : ℕ) (words out : Lis
   unfolding patternAnswer patternBuffer patternRefusal
   pattern-right t e i =
       let r : patternRefusal w out ≡ none =
-        (let m = length-rowWords (patternRows w) in
-        let k = ap (λ (xs : List ℕ). length xs) i in
-        rw (f, t, le-ltb (length out) (4 * length (patternRows w)) (omega arith)))
+      (let m = length-rowWords (patternRows w) in
+      let k = ap (λ (xs : List ℕ). length xs) i in
+      rw (f, t, le-ltb (length out) (4 * length (patternRows w)) (omega arith)))
       in
       (rw (r, e), rw (r, i) (filled words out fits))
 

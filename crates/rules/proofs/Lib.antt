@@ -1,6 +1,7 @@
 -- Laws about the definitions.
 pub mod Members
 pub mod Dispatcher
+pub mod Determined
 pub mod Blockers
 pub mod LateJob
 pub mod Refused

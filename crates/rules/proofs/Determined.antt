@@ -1,5 +1,5 @@
 -- The dispatcher's rules leave one possibility: whatever rows obey them are those that it gives.
-use mathlib.Core.Path.{_≡_, refl, sym, ap, subst, _∙_}
+use mathlib.Core.Path.{_≡_, refl, sym, ap, _∙_}
 use mathlib.Core.Logic.{_↔_}
 use mathlib.Core.Option.{Option, none, some}
 use Prim.Native.Nat.{ℕ, zero, suc, _+_, _≤_, _<_}
@@ -20,7 +20,7 @@ use Rattle.rules.proofs.Tables.{table-sound}
 use Rattle.rules.proofs.Trains.{trains-legal}
 use Rattle.rules.proofs.Taken.{Taken, taken-mem, taken-cases, taken-length, taken-distinct, without-taken, Distinct}
 use Rattle.rules.proofs.Legal.{taskAt-sound, legal-fits, legal-distinct}
-use Rattle.rules.proofs.Picked.{Ahead, Picked, Pick, nobody, somebody, picks, earliest-least, earliest-some}
+use Rattle.rules.proofs.Picked.{Picked, Pick, nobody, somebody, picks, earliest-least, earliest-some}
 use Rattle.rules.proofs.Dispatcher.{rowAt, NotStarted, Obeys, taken-gone, dispatch-obeys}
 
 -- two jobs of one task never have the same deadline

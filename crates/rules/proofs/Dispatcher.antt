@@ -11,7 +11,7 @@ use Rattle.rules.specs.Legal.{Legal}
 use Rattle.rules.proofs.Taken.{Taken, now, later, taken-in, taken-mem, taken-cases, taken-length, taken-distinct, same-false, Distinct}
 use Rattle.rules.proofs.Legal.{legal-distinct}
 use Rattle.rules.proofs.Picked.{Ahead, Picked, earliest-least}
-use Rattle.rules.proofs.Runs.{Run, done, step, distinct-run, run-length}
+use Rattle.rules.proofs.Runs.{Run, done, step, distinct-run}
 
 -- the row at a place
 abbrev pub rowAt : List Row → ℕ → Row

@@ -5,6 +5,7 @@ pub mod Determined
 pub mod Blockers
 pub mod LateJob
 pub mod Refused
+pub mod RefusedCalls
 pub mod Stars
 pub mod Tests
 pub mod Tables

@@ -1,14 +1,14 @@
 -- The starred sets hold: one test computed over the whole table, and a law that turns the test of a row into what the row says.
 use mathlib.Core.Path.{_≡_, refl, sym, ap, _∙_}
 use mathlib.Core.Option.{Option, none, some}
-use Prim.Native.Nat.{ℕ, zero, suc, _+_, _-_, _*_, _≤_, _<_}
+use Prim.Native.Nat.{ℕ, _-_, _*_, _≤_}
 use native.Mathlib.Omega.{arith}
 use mathlib.Core.List.{List, [], _∷_, _++_, append-nil, List·Memᴰ, List·Memᴰ·head, List·Memᴰ·tail, List·Memᴰ·not-nil}
-use mathlib.Core.Bool.{Bool, true, false, _&&_, _||_, not}
-use lib.Dec.{leb, ltb, eqb}
+use mathlib.Core.Bool.{Bool, true, false, _&&_}
+use lib.Dec.{leb, eqb}
 use lib.ListN.{length, drop, drop-of-length-le}
 use borrow.Author.Tests.{leb-true, eqb-true, ne-eqb, le-ltb}
-use Rattle.rules.specs.Choice.{if_then_else_, least}
+use Rattle.rules.specs.Choice.{least}
 use Rattle.rules.specs.Task.{Task, tasksOf, AllSound}
 use Rattle.rules.specs.Table.{wordLeast, inRange, outOfRange, tableRefusal}
 use Rattle.rules.specs.Dispatch.{Row, finish, late, before, sooner, pick, same, without, earliest, ready, rows, dispatch, lateJob, rowWords}
@@ -16,7 +16,6 @@ use Rattle.rules.specs.Jobs.{train, trains, countBefore, concreteTrain, 
 use Rattle.rules.specs.Demand.{horizon, due, Due, wait, Wait, fails, ceiling, work, closes, firstFail, span, firstWaiting, blocker, verdict}
 use Rattle.rules.specs.Answers.{endMost, scheduleRows, scheduleRefusal, isMisses, patternRows, patternRefusal, scheduleAnswer, scheduleBuffer, verdictAnswer, patternAnswer, patternBuffer}
 use Rattle.rules.specs.Stars.{set, Outcome, meets, misses, onTime, pattern, Star, stars, Right, Stars}
-use Rattle.rules.specs.declared.Refusal.{Refusal}
 use Rattle.rules.specs.declared.Blocker.{Blocker}
 use Rattle.rules.specs.declared.Verdict.{Verdict}
 use Rattle.rules.specs.declared.VerdictAnswer.{VerdictAnswer}
@@ -191,7 +190,11 @@ rows-right (r ∷ ss) e s (List·Memᴰ·head q) =
     rw q (right (set (r .tasks)) (r .outcome) (nothing-true _ (x .0)) (x .1))
 rows-right (r ∷ ss) e s (List·Memᴰ·tail m) = rows-right ss (both-true (every (row-tests r)) (passes ss) e .1) s m
 
+-- they all pass
+table-passes : passes stars ≡ true
+unfolding tests wordLeast inRange outOfRange tableRefusal tasksOf least due Due wait Wait fails ceiling work closes firstFail span firstWaiting blocker verdict train trains countBefore concreteTrain concrete countWithin namedTrain named finish late before sooner pick same without earliest ready rows dispatch lateJob rowWords scheduleRows patternRows
+table-passes = refl
+
 -- every star holds
 pub stars-hold : Stars
-unfolding tests wordLeast inRange outOfRange tableRefusal tasksOf least due Due wait Wait fails ceiling work closes firstFail span firstWaiting blocker verdict train trains countBefore concreteTrain concrete countWithin namedTrain named finish late before sooner pick same without earliest ready rows dispatch lateJob rowWords scheduleRows patternRows
-stars-hold = rows-right stars refl
+stars-hold = rows-right stars table-passes

@@ -24,5 +24,5 @@ least-below ts sound σ pos e L f least = go (lt-or-ge L σ)
     go (inr h) =
         let le : σ ≤ L = leb-true _ _ h in
         let x = misses ts sound L f in
-        let on-time = meets ts sound σ pos e (λ M p q. least M p (omega arith)) (named L ts) (x .legal) (x .late-row .0) (x .late-row .1) in
-        true-is-not-false (sym (x .late-row .2) ∙ on-time)
+        let on-time = meets ts sound σ pos e (λ M p q. least M p (omega arith)) (named L ts) (x .0) (x .2 .0) (x .2 .1) in
+        true-is-not-false (sym (x .2 .2) ∙ on-time)

@@ -49,12 +49,6 @@ trains-total ts plan L p each k (τ ∷ us) R =
     let ih = trains-total ts plan L p each (suc k) us (rest-next ts k τ us R) in
     omega (arith, total-append p (trainOf plan k τ) (trains plan (suc k) us))
 
--- what a failing length names
-pub record Missed (ts : List Task) (js : List Job) : Type 0 where
-  pub legal : Legal ts js
-  pub full : (j : Job) → List·Memᴰ j js → j .run ≡ taskAt ts (j .task) .C
-  pub late-row : LateIn (dispatch js)
-
 module _ (ts : List Task) (sound : AllSound ts) (L : ℕ) where
   named-legal : Legal ts (named L ts)
   unfolding named
@@ -126,13 +120,13 @@ module _ (ts : List Task) (sound : AllSound ts) (L : ℕ) where
         by j m z false q = named-others L b ts j sound e (eqb-false _ _ q) .0 m .1
 
 -- MISSES: for any length that fails, not only the least
-pub misses : (ts : List Task) → AllSound ts → (L : ℕ) → fails L ts ≡ true → Missed ts (named L ts)
-misses ts sound L f = record {
-  legal = named-legal ts sound L;
-  full = named-full ts sound L;
-  late-row = go (blocker L ts) refl;
-}
+pub misses : (ts : List Task) → AllSound ts → (L : ℕ) → fails L ts ≡ true
+    → Legal ts (named L ts) × ((j : Job) → List·Memᴰ j (named L ts) → j .run ≡ taskAt ts (j .task) .C) × LateIn (dispatch (named L ts))
+misses ts sound L f = (named-legal ts sound L, named-full ts sound L, go (blocker L ts) refl)
   where
+    facts : (1 ≤ Due L ts) × (L < Due L ts + Wait L ts)
+    facts = fails-when ts L .0 f
+
     go : (o : Blocker) → blocker L ts ≡ o → LateIn (dispatch (named L ts))
-    go (Blocker.Task b) e = behind ts sound L (fails-when ts L .0 f .0) (fails-when ts L .0 f .1) b e
-    go Blocker.Nobody e = alone ts sound L (fails-when ts L .0 f .0) (fails-when ts L .0 f .1) e
+    go (Blocker.Task b) e = behind ts sound L (facts .0) (facts .1) b e
+    go Blocker.Nobody e = alone ts sound L (facts .0) (facts .1) e

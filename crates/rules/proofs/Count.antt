@@ -142,7 +142,7 @@ module _ (ts : List Task) (js : List Job) (l : Legal ts js) (n : Task → ℕ) (
       → ((j : Job) → List·Memᴰ j js → p j ≡ true → (k ≤ j .task) × Inside ts n x j) → total p js ≤ load n us
   unfolding load
   load-from k [] R p h =
-      omega (arith, total-none p js (λ j m e. let w = h j m e in let f = legal-fits ts js l j m .known in let r = R .ends in omega arith))
+      omega (arith, total-none p js (λ j m e. let w = h j m e in let f = legal-fits ts js l j m .known in omega arith))
   load-from k (τ ∷ us) R p h =
       let one : total (λ j. p j && here j) js ≤ τ .C * n τ = rw (rest-here ts k τ us R) (packed ts js l k (n (taskAt ts k)) x _ first) in
       let others : total (λ j. p j && not (here j)) js ≤ load n us = load-from (suc k) us (rest-next ts k τ us R) _ rest in

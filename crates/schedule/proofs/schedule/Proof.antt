@@ -37,7 +37,7 @@ returns-2 : tie.Need-returns-2
 returns-2 c = by-no-end _ _ _ (fine (c .before)) (c .if1 .taken)
 
 returns-3 : tie.Need-returns-3
-returns-3 c = by-far-end _ _ _ (fine (c .before .before)) (omega arith) (c .if2 .taken)
+returns-3 c = by-far-end _ _ _ (fine (c .before .before)) (omega arith) (omega arith)
 
 firsts-requires : tie.Need-firsts-requires
 firsts-requires c κs = valid-of _ (fine (c .before .before))
@@ -68,7 +68,7 @@ counted c = c .total-jobs .ensures .rows (c .before .before .before .firsts .res
 returns-4 : tie.Need-returns-4
 returns-4 c =
     let b = c .before .before .before in
-    by-room _ _ _ (fine (told b)) (omega arith) (b .before .before .if2 .left) (omega (arith, counted (c .before), c .if3 .taken))
+    by-room _ _ _ (fine (told b)) (omega arith) (omega (arith, b .before .before .if2 .left)) (omega (arith, counted (c .before), c .if3 .taken))
 
 run-requires : tie.Need-run-requires
 run-requires c κs =
@@ -83,7 +83,7 @@ returns-5 c =
     let r = c .before .before in
     let n = r .before .before .before .before .before in
     let b = n .before .before in
-    by-rows _ _ _ (fine (told b)) (omega arith) (b .before .before .if2 .left) _ _ _ _ (arrays b) (omega (arith, counted n, r .before .before .before .before .if3 .left)) (r .run .ensures)
+    by-rows _ _ _ (fine (told b)) (omega arith) (omega (arith, b .before .before .if2 .left)) _ _ _ _ (arrays b) (omega (arith, counted n, r .before .before .before .before .if3 .left)) (r .run .ensures)
 
 pub schedule-spec : {M : Type 1} → statement M
 schedule-spec =

@@ -5,7 +5,7 @@ use native.Mathlib.Nat.{not-suc-le-zero, pow-le-pow-right}
 use native.Mathlib.Numerals.{add-one}
 use native.Mathlib.Omega.{arith}
 use mathlib.Core.List.{List, [], _∷_}
-use mathlib.Core.Bool.{Bool, true, false, _&&_}
+use mathlib.Core.Bool.{Bool, true, false}
 use mathlib.Core.Option.{none, some}
 use lib.Dec.{leb}
 use lib.ListN.{length, take, drop, getD, length-drop, drop-of-length-le}
@@ -56,10 +56,6 @@ module _ (key t : List ℕ) (i : ℕ) where
     key-step p e = rw (open-key, first-of t p, eq-eqb (getD t 0 0) (getD key i 0) e)
 
 -- a digit
-and-false : (a : Bool) → a && false ≡ false
-and-false true = refl
-and-false false = refl
-
 module _ (b : ℕ) where
   pub below-digits : b < 48 → digit b ≡ false
   unfolding digit
@@ -67,7 +63,7 @@ module _ (b : ℕ) where
 
   pub above-digits : 57 < b → digit b ≡ false
   unfolding digit
-  above-digits h = rw (lt-leb b 57 h) (and-false (leb 48 b))
+  above-digits h = rw (le-leb 48 b (omega arith), lt-leb b 57 h)
 
   pub a-digit : 48 ≤ b → b ≤ 57 → digit b ≡ true
   unfolding digit

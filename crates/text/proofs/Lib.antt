@@ -1,7 +1,7 @@
--- Laws of reader and writer; Callers has those that the crates above cite, Promises the proofs of specs/Promises.
-pub mod Scanning
-pub mod Sets
-pub mod Writing
+-- Laws of reader and writer: Callers has what the crates above cite, Promises proves the page of specs/.
+mod Scanning
+mod Sets
+mod Writing
 pub mod Round
 pub mod Callers
 pub mod Promises

@@ -8,3 +8,4 @@ pub mod Totals
 pub mod Walk
 pub mod Rest
 pub mod Loop
+pub mod Filled

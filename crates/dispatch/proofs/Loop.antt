@@ -131,13 +131,13 @@ module _ (w f c out₀ : List ℕ) (m n : ℕ) (ok : Valid w m) where
     pub state-more : k < n → (x : Turn) → Chosen w f c nx t m 0 x → (q e : ℕ) → q ≡ getD nx (x .task) 0 → e ≡ x .start + getD w (4 * x .task) 0
         → (l′ : Lateness) → l′ ≡ noting l (x .task) q (x .due) e → (out′ : List ℕ)
         → out′ ≡ take (4 * k) out ++ (x .task ∷ q ∷ x .start ∷ e ∷ drop (4 * k + 4) out)
-        → State w f c out₀ m n out′ (moved w f c nx (x .task)) e l′ (k + 1)
+        → State w f c out₀ m n out′ (moved nx (x .task)) e l′ (k + 1)
     unfolding rowWords finish
     state-more h x ch q e eq ee l′ el out′ eo =
         let p : ℕ = n - (k + 1) in
         let done : List Row = S .done in
-        let row : Row = rowOf w f c nx x in
-        let after : List Job = restFrom w f c (moved w f c nx (x .task)) m 0 in
+        let row : Row = rowOf w f nx x in
+        let after : List Job = restFrom w f c (moved nx (x .task)) m 0 in
         let st : Steps w f c nx m t p x = step w f c nx m t p x (omega (arith, S .slots, ok .most-tasks)) (omega (arith, S .jobs)) ch in
         let ep : n - k ≡ suc p = omega arith in
         let len : length (rowWords done) ≡ 4 * k = omega (arith, length-rowWords done, S .count) in

@@ -24,6 +24,14 @@ use Rattle.dispatch.proofs.Trains.{without-train, without-head}
 abbrev pub none-started : List ℕ
 none-started = replicate 64 0
 
+-- the numbers after a turn of task b
+abbrev pub moved : List ℕ → ℕ → List ℕ
+moved nx b = set nx b (getD nx b 0 + 1)
+
+-- the row of a turn
+abbrev pub rowOf : List ℕ → List ℕ → List ℕ → Turn → Row
+rowOf w f nx x = record { job = jobAt w f (x .task) (getD nx (x .task) 0); start = x .start }
+
 module _ (w f c : List ℕ) where
   -- of task k the jobs from number q on
   abbrev tail : ℕ → ℕ → List Job
@@ -81,17 +89,9 @@ module _ (w f c : List ℕ) where
 
   -- ---- one turn of the loop is one row
 
-  -- the numbers after the turn
-  abbrev pub moved : List ℕ → ℕ → List ℕ
-  moved nx b = set nx b (getD nx b 0 + 1)
-
-  -- the row of the turn
-  abbrev pub rowOf : List ℕ → Turn → Row
-  rowOf nx x = record { job = jobAt w f (x .task) (getD nx (x .task) 0); start = x .start }
-
   pub record Steps (nx : List ℕ) (m t p : ℕ) (x : Turn) : Type 0 where
     pub row : rows (suc p) t (restFrom w f c nx m 0)
-        ≡ rowOf nx x ∷ rows p (x .start + getD w (4 * x .task) 0) (restFrom w f c (moved nx (x .task)) m 0)
+        ≡ rowOf w f nx x ∷ rows p (x .start + getD w (4 * x .task) 0) (restFrom w f c (moved nx (x .task)) m 0)
     pub fewer : length (restFrom w f c (moved nx (x .task)) m 0) ≡ p
 
   pub step : (nx : List ℕ) (m t p : ℕ) (x : Turn) → m ≤ length nx → length (restFrom w f c nx m 0) ≡ suc p → Chosen w f c nx t m 0 x → Steps nx m t p x
@@ -99,13 +99,13 @@ module _ (w f c : List ℕ) where
       let js : List Job = restFrom w f c nx m 0 in
       let e : m - 0 ≡ m = omega arith in
       let er : ready t js ≡ x .start = ap (λ (n : ℕ). ready t (restFrom w f c nx n 0)) (sym e) ∙ ch .starts in
-      let ep : pick (x .start) js ≡ some (rowOf nx x .job) = ap (λ (n : ℕ). pick (x .start) (restFrom w f c nx n 0)) (sym e) ∙ ch .picked in
-      let ew : without (rowOf nx x .job) js ≡ restFrom w f c (moved nx (x .task)) m 0 =
+      let ep : pick (x .start) js ≡ some (rowOf w f nx x .job) = ap (λ (n : ℕ). pick (x .start) (restFrom w f c nx n 0)) (sym e) ∙ ch .picked in
+      let ew : without (rowOf w f nx x .job) js ≡ restFrom w f c (moved nx (x .task)) m 0 =
       without-next nx (x .task) (omega (arith, ch .is-task)) (ch .live) m 0 (omega arith) (omega (arith, ch .is-task))
       in
       record {
         row =
-            rows-step p t (x .start) js (rowOf nx x .job) er ep
-            ∙ ap (λ (l : List Job). rowOf nx x ∷ rows p (x .start + getD w (4 * x .task) 0) l) ew;
-        fewer = omega (arith, shorter (x .start) js (rowOf nx x .job) ep, ap length ew);
+            rows-step p t (x .start) js (rowOf w f nx x .job) er ep
+            ∙ ap (λ (l : List Job). rowOf w f nx x ∷ rows p (x .start + getD w (4 * x .task) 0) l) ew;
+        fewer = omega (arith, shorter (x .start) js (rowOf w f nx x .job) ep, ap length ew);
       }

@@ -13,6 +13,11 @@ use Rattle.rules.specs.declared.ScheduleAnswer.{ScheduleAnswer}
 abbrev pub planned : List ℕ → List ℕ → ℕ → Task → Train
 planned f c k τ = record { first = getD f k 0; count = getD c k 0 }
 
+-- the first m numbers of such an array are those that a rule gives
+pub record Filled (rule : ℕ → ℕ) (m : ℕ) (a : List ℕ) : Type 0 where
+  pub size : length a ≡ 64
+  pub each : (i : ℕ) → i < m → getD a i 0 ≡ rule i
+
 -- the rows of the trains so planned for the tasks of a table
 unfoldable pub plannedRows : List ℕ → List ℕ → List ℕ → List Row
 plannedRows w f c = dispatch (trains (planned f c) 0 (tasksOf w))

@@ -10,18 +10,19 @@ use rules::ScheduleAnswer;
 use table::wide;
 
 // The next job to start: its task, its start and its deadline.
-pub struct Turn {
-    pub task: usize,
-    pub start: u64,
-    pub due: u64,
+struct Turn {
+    task: usize,
+    start: u64,
+    due: u64,
 }
 
 // The late job so far whose deadline is least.
-pub enum Lateness {
+enum Lateness {
     OnTime,
     Late { task: u64, job: u64, deadline: u64 },
 }
 
+// The later of two ticks.
 fn later(a: u64, b: u64) -> u64
     ensures { λ r. ⌜ r ≡ max a b ⌝ }
 {
@@ -39,7 +40,8 @@ fn release(table: &[u32], first: &[u32; 64], m: usize, i: usize, q: u32) -> u64
     r + wide(q) * t
 }
 
-// Task i against the best of the tasks after it: the job that can start first, then the one with the lesser deadline.
+// The next job of task i against the best of the tasks after it. A job can start at t or at its release, whichever is later;
+// the one that can start first is best, then the one with the lesser deadline, then the lower task.
 fn consider(
     table: &[u32],
     first: &[u32; 64],
@@ -116,7 +118,7 @@ fn put_row(rows: &mut [u64], k: usize, task: u64, number: u64, s: u64, f: u64)
     rows[4 * k + 3] = f;
 }
 
-// The late job after one row more, that of job number of a task, due at a tick and finished at f.
+// The late job after one row more: the job of that number of a task, due at a tick and finished at f.
 fn noted(held: Lateness, task: u64, number: u64, due: u64, f: u64) -> Lateness
     ensures { λ r. ⌜ r ≡ noting held task number due f ⌝ }
 {
@@ -150,6 +152,7 @@ fn noted(held: Lateness, task: u64, number: u64, due: u64, f: u64) -> Lateness
     }
 }
 
+// The answer for n rows.
 fn answer(n: u64, late: Lateness) -> ScheduleAnswer
     ensures { λ r. ⌜ r ≡ answered n late ⌝ }
 {

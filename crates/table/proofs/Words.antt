@@ -3,9 +3,8 @@ use mathlib.Core.Path.{_≡_, refl, ap}
 use Prim.Native.Nat.{ℕ, _+_, _%_, _≤_, _<_}
 use native.Mathlib.Numerals.{add-one}
 use mathlib.Core.List.{List, [], _∷_}
-use mathlib.Core.Bool.{Bool, true, false, _&&_}
+use mathlib.Core.Bool.{true, false}
 use mathlib.Core.Option.{Option, none, some}
-use lib.Dec.{leb}
 use lib.ListN.{length, drop, getD, drop-of-length-le}
 use lib.Seq.{drop-cons}
 use borrow.Author.Tests.{le-leb, lt-leb, eq-eqb, ne-eqb, lt-ltb, le-ltb}
@@ -15,19 +14,15 @@ use Rattle.rules.specs.declared.Refusal.{Refusal}
 use Rattle.rules.specs.declared.Refusal.the-variants.{NoWord, NotFours, TooManyWords, OutOfRange}
 use Rattle.rules.specs.declared.TableAnswer.the-variants.{Fine, Refused}
 
-and-false : (a : Bool) → a && false ≡ false
-and-false true = refl
-and-false false = refl
-
 -- a word's range
 module _ (i x : ℕ) where
   pub too-low : x < wordLeast i → inRange i x ≡ false
   unfolding inRange
   too-low h = rw (lt-leb (wordLeast i) x h)
 
-  pub too-high : 65535 < x → inRange i x ≡ false
+  pub too-high : wordLeast i ≤ x → 65535 < x → inRange i x ≡ false
   unfolding inRange
-  too-high h = rw (lt-leb x 65535 h) (and-false (leb (wordLeast i) x))
+  too-high l h = rw (le-leb (wordLeast i) x l, lt-leb x 65535 h)
 
   pub in-between : wordLeast i ≤ x → x ≤ 65535 → inRange i x ≡ true
   unfolding inRange

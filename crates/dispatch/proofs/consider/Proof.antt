@@ -27,7 +27,10 @@ wide-requires-2 : tie.Need-wide-requires-2
 wide-requires-2 c κs = search needs
 
 returns : tie.Need-returns
-returns c = best-done _ _ _ _ _ _ _ _ (c .before .before .before .before .before .before .pre .1 .0) (omega (arith, c .before .wide2 .ensures .0, c .before .before .wide .ensures .0, c .if1 .taken)) (c .before .before .before .before .before .before .pre .1 .1 .1)
+returns c =
+    let n = c .before in
+    let s = n .before .before .before .before .before in
+    best-done _ _ _ _ _ _ _ _ (s .pre .1 .0) (omega (arith, n .wide2 .ensures .0, n .before .wide .ensures .0)) (s .pre .1 .1 .1)
 
 release-requires : tie.Need-release-requires
 release-requires c κs = search needs

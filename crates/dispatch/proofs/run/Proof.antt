@@ -59,8 +59,9 @@ wide-requires-2 c κs = search needs
 
 put-row-requires : tie.Need-put-row-requires Inv-loop μ-loop
 put-row-requires c κs =
-    let l = c .before .before .before .before .before .before .before .before in
-    omega (arith, state-length _ _ _ _ _ _ (start (c .before .before .before .before .before) .pre .0) _ _ _ _ _ (l .loop .inv), l .loop .inv .fits, c .before .before .before .before .before .before .before .loop-test .taken)
+    let x = c .before .before .before .before .before in
+    let l = x .before .before .before in
+    omega (arith, state-length _ _ _ _ _ _ (start x .pre .0) _ _ _ _ _ (l .loop .inv), l .loop .inv .fits, x .before .before .loop-test .taken)
 
 noted-requires : tie.Need-noted-requires Inv-loop μ-loop
 noted-requires c κs = search needs

@@ -12,7 +12,9 @@ returns : tie.Need-returns
 returns c = sym (too-low (c .before .before .args .i) (c .before .before .args .x) (omega arith))
 
 returns-2 : tie.Need-returns-2
-returns-2 c = sym (too-high (c .before .before .before .args .i) _ (c .if2 .taken))
+returns-2 c =
+    let a = c .before .before .before .args in
+    sym (too-high (a .i) (a .x) (omega arith) (c .if2 .taken))
 
 returns-3 : tie.Need-returns-3
 returns-3 c =

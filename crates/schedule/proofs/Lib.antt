@@ -1,0 +1,3 @@
+-- Laws about the concrete schedule's arrays and its outcome.
+pub mod Arrays
+pub mod Outcome

@@ -1,0 +1,2 @@
+-- What the two arrays of the concrete schedule hold.
+pub mod Arrays

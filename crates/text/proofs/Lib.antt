@@ -1,0 +1,7 @@
+-- Laws of reader and writer: Callers has what the crates above cite, Promises proves the page of specs/.
+mod Scanning
+mod Sets
+mod Writing
+pub mod Round
+pub mod Callers
+pub mod Promises

@@ -1,13 +1,12 @@
 -- The two arrays of the named pattern.
 use mathlib.Core.Path.{_≡_, refl, sym, ap, ap₂, _∙_}
-use Prim.Native.Nat.{ℕ, _+_, _<_}
+use Prim.Native.Nat.{ℕ, _<_}
 use native.Mathlib.Omega.{arith}
 use mathlib.Core.List.{List}
 use mathlib.Core.Bool.{Bool, true, false}
 use lib.Dec.{eqb}
-use lib.ListN.{length, getD, set, replicate, length-set}
+use lib.ListN.{length, getD, set}
 use lib.Seq.{getD-set-same, getD-set-other}
-use borrow.Author.Count.{below-more}
 use borrow.Author.Tests.{eqb-true, eqb-false}
 use Rattle.rules.specs.Choice.{if_then_else_}
 use Rattle.rules.specs.Task.{Task, tasksOf}
@@ -19,23 +18,9 @@ use Rattle.rules.specs.declared.Blocker.{Blocker}
 use Rattle.rules.proofs.Tables.{length-tasks}
 use Rattle.rules.proofs.Blockers.{blocker-task}
 use Rattle.demand.specs.Parts.{taskCount, ValidTable}
-use Rattle.dispatch.specs.Plan.{planned, plannedRows}
+use Rattle.dispatch.specs.Plan.{planned, Filled, plannedRows}
 use Rattle.dispatch.proofs.Trains.{rows-of-plan}
-use Rattle.pattern.specs.Plans.{DueCounts}
-
--- the counts, one task more
-pub counts-none : (w : List ℕ) (L : ℕ) → DueCounts w L 0 (replicate 64 0)
-counts-none w L = record { full = refl; at = λ k h. absurd (omega arith) }
-
-pub counts-more : (w : List ℕ) (L i n : ℕ) (c : List ℕ) → DueCounts w L i c → i < 64 → n ≡ countWithin L (taskIn w i) → DueCounts w L (i + 1) (set c i n)
-counts-more w L i n c x h e =
-    record {
-      full = length-set c i n ∙ x .full;
-      at =
-          below-more (λ (k : ℕ). getD (set c i n) k 0 ≡ countWithin L (taskIn w k)) i
-          (λ k l. getD-set-other c i k n 0 (λ q. omega arith) ∙ x .at k l)
-          (getD-set-same c i n 0 (omega (arith, x .full)) ∙ e);
-    }
+use Rattle.pattern.specs.Plans.{dueAt}
 
 -- a blocker is one of the tasks
 pub blocker-known : (w : List ℕ) (L b : ℕ) (o : Blocker) → ValidTable w → o ≡ blocker L (tasksOf w) → o ≡ Blocker.Task b → b < 64
@@ -48,7 +33,7 @@ train-of : (f d : List ℕ) (k : ℕ) (τ : Task) (a n : ℕ) → getD f k 0 ≡
 train-of f d k τ a n p q = ap₂ (λ (a n : ℕ). record { first = a; count = n }) p q
 
 -- the rows of the arrays are those of the named pattern
-module _ (w : List ℕ) (L : ℕ) (v : ValidTable w) (f c : List ℕ) (x : DueCounts w L (taskCount w) c) where
+module _ (w : List ℕ) (L : ℕ) (v : ValidTable w) (f c : List ℕ) (x : Filled (dueAt w L) (taskCount w) c) where
   -- where the arrays agree with the plan task by task
   agreeing : (b : Blocker) → b ≡ blocker L (tasksOf w) → (g d : List ℕ)
       → ((k : ℕ) → k < taskCount w → planned g d k (taskIn w k) ≡ namedTrain L b k (taskIn w k))
@@ -60,7 +45,7 @@ module _ (w : List ℕ) (L : ℕ) (v : ValidTable w) (f c : List ℕ) (x : DueCo
   pub plan-nobody : Blocker.Nobody ≡ blocker L (tasksOf w) → ((k : ℕ) → k < 64 → getD f k 0 ≡ 0)
       → plannedRows w f c ≡ dispatch (named L (tasksOf w))
   unfolding namedTrain
-  plan-nobody e all = agreeing Blocker.Nobody e f c (λ k h. train-of f c k (taskIn w k) _ _ (all k (omega arith)) (x .at k h))
+  plan-nobody e all = agreeing Blocker.Nobody e f c (λ k h. train-of f c k (taskIn w k) _ _ (all k (omega arith)) (x .each k h))
 
   -- with one, it comes once, at 0, and the others from 1 on
   pub plan-task : (b : ℕ) → Blocker.Task b ≡ blocker L (tasksOf w) → length f ≡ 64 → ((k : ℕ) → k < 64 → getD f k 0 ≡ 1)
@@ -74,9 +59,9 @@ module _ (w : List ℕ) (L : ℕ) (v : ValidTable w) (f c : List ℕ) (x : DueCo
           let i : k ≡ b = eqb-true k b q in
           train-of (set f b 0) (set c b 1) k (taskIn w k) 0 1
           (ap (λ (j : ℕ). getD (set f b 0) j 0) i ∙ getD-set-same f b 0 0 (omega arith))
-          (ap (λ (j : ℕ). getD (set c b 1) j 0) i ∙ getD-set-same c b 1 0 (omega (arith, x .full)))
+          (ap (λ (j : ℕ). getD (set c b 1) j 0) i ∙ getD-set-same c b 1 0 (omega (arith, x .size)))
       go k h false q =
           let n = eqb-false k b q in
           train-of (set f b 0) (set c b 1) k (taskIn w k) 1 (countWithin L (taskIn w k))
           (getD-set-other f b k 0 0 n ∙ all k (omega arith))
-          (getD-set-other c b k 1 0 n ∙ x .at k h)
+          (getD-set-other c b k 1 0 n ∙ x .each k h)

@@ -2,16 +2,16 @@
 use mathlib.Core.Path.{_≡_, refl, sym, ap, ap₂, subst, _∙_}
 use Prim.Native.Nat.{ℕ, _*_, _≤_, _<_}
 use native.Mathlib.Omega.{arith}
-use mathlib.Core.List.{List, [], _∷_, _++_, List·Memᴰ}
+use mathlib.Core.List.{List, [], _∷_, List·Memᴰ}
 use mathlib.Core.Bool.{Bool, true, false, not}
 use mathlib.Core.Option.{Option, none, some}
 use lib.Dec.{ltb}
-use lib.ListN.{length, drop}
+use lib.ListN.{length}
 use borrow.Author.Tests.{lt-ltb, le-ltb, not-false}
 use Rattle.rules.specs.Task.{tasksOf}
-use Rattle.rules.specs.Refusals.{_when_, firstOf, answering, lent}
+use Rattle.rules.specs.Refusals.{_when_, firstOf, answering}
 use Rattle.rules.specs.Table.{tableRefusal}
-use Rattle.rules.specs.Dispatch.{Row, dispatch, late, rowWords}
+use Rattle.rules.specs.Dispatch.{Row, dispatch, late}
 use Rattle.rules.specs.Jobs.{named}
 use Rattle.rules.specs.Demand.{verdict}
 use Rattle.rules.specs.Answers.{isMisses, namedBy, patternRows, patternRefusal, patternAnswer, patternBuffer}
@@ -24,7 +24,7 @@ use Rattle.rules.specs.declared.ScheduleAnswer.{ScheduleAnswer}
 use Rattle.rules.specs.declared.PatternAnswer.{PatternAnswer}
 use Rattle.rules.proofs.Tests.{true-is-not-false}
 use Rattle.rules.proofs.Tables.{not-given, when-not}
-use Rattle.rules.proofs.Refused.{pattern-8}
+use Rattle.rules.proofs.RefusedCalls.{pattern-8}
 use Rattle.promises.specs.Demands.{One, Kept}
 use Rattle.promises.proofs.Kept.{kept-table}
 use Rattle.dispatch.specs.Plan.{plannedRows, Counts, Runs}
@@ -35,74 +35,48 @@ module _ (w f c out : List ℕ) (rows : List Row) (planned : plannedRows w f c �
   count-is : n ≡ length rows
   count-is = counts .rows f ∙ ap (λ (l : List Row). length l) planned
 
-  -- answer and buffer by the test for room
-  says-if : Bool → PatternAnswer
-  says-if b = answering (TooShort when b) PatternAnswer.Refused (PatternAnswer.Rows (length rows))
-
-  leaves-if : Bool → List ℕ
-  leaves-if b = lent (TooShort when b) (rowWords rows) out
-
   pub shows-short : length out < 4 * n → ShowsRows rows out (PatternAnswer.Refused TooShort) out
-  unfolding says-if leaves-if
   shows-short h =
       let s = lt-ltb (length out) (4 * length rows) (omega (arith, count-is)) in
-      record { says = sym (ap says-if s); leaves = sym (ap leaves-if s) }
+      record { says = rw s; leaves = rw s }
 
   pub shows-rows : 4 * n ≤ length out → (a : ScheduleAnswer) (exit : List ℕ) → Runs w f c out a exit → ShowsRows rows out (PatternAnswer.Rows n) exit
-  unfolding says-if leaves-if
   shows-rows h a exit r =
       let s = le-ltb (length out) (4 * length rows) (omega (arith, count-is)) in
-      record {
-        says = ap PatternAnswer.Rows count-is ∙ sym (ap says-if s);
-        leaves = r .leaves ∙ ap (λ (l : List Row). rowWords l ++ drop (length (rowWords l)) out) planned ∙ sym (ap leaves-if s);
-      }
+      record { says = rw s (ap PatternAnswer.Rows count-is); leaves = rw (s, ← planned) (r .leaves) }
 
 -- the call by its refusals
 module _ (w out : List ℕ) where
-  abbrev says-of : Option Refusal → List Row → PatternAnswer
-  says-of o rows = answering o PatternAnswer.Refused (PatternAnswer.Rows (length rows))
-
-  abbrev leaves-of : Option Refusal → List Row → List ℕ
-  leaves-of o rows = lent o (rowWords rows) out
-
   given : (r : Refusal) → patternRefusal w out ≡ some r → Shows w out (PatternAnswer.Refused r) out
   unfolding patternAnswer patternBuffer
-  given r e =
-      record { says = sym (ap (λ (o : Option Refusal). says-of o (patternRows w)) e); leaves = sym (ap (λ (o : Option Refusal). leaves-of o (patternRows w)) e) }
+  given r e = record { says = rw e; leaves = rw e }
 
   -- 1 to 4: the table's
   pub refused-table : (r : Refusal) → tableRefusal w ≡ some r → Shows w out (PatternAnswer.Refused r) out
   unfolding patternRefusal
-  refused-table r e = given r (rw e refl)
+  refused-table r e = given r (rw e)
 
   -- 8: the verdict isn't "misses"
   pub refused-verdict : tableRefusal w ≡ none → (v : Verdict) → v ≡ verdict (tasksOf w) → isMisses v ≡ false → Shows w out (PatternAnswer.Refused NotMisses) out
   refused-verdict e v f g = given NotMisses (pattern-8 w out .1 (e, sym (ap isMisses f) ∙ g))
 
   -- 6, or the rows
-  refusal-of : Option Refusal → Verdict → Option Refusal
-  refusal-of o v = firstOf (o ∷ (NotMisses when not (isMisses v)) ∷ shortFor (dispatch (namedBy v w)) out ∷ [])
-
   only : (b : Bool) → firstOf ((TooShort when b) ∷ []) ≡ (TooShort when b)
   only true = refl
   only false = refl
 
-  misses-rows : (L : ℕ) (b : Blocker) → verdict (tasksOf w) ≡ Verdict.Misses L b → patternRows w ≡ dispatch (named L (tasksOf w))
-  unfolding patternRows
-  misses-rows L b m = ap (λ (v : Verdict). dispatch (namedBy v w)) m
+  module _ (ok : tableRefusal w ≡ none) (L : ℕ) (b : Blocker) (m : verdict (tasksOf w) ≡ Verdict.Misses L b) where
+    its-rows : patternRows w ≡ dispatch (named L (tasksOf w))
+    unfolding patternRows
+    its-rows = rw m
 
-  misses-refusal : tableRefusal w ≡ none → (L : ℕ) (b : Blocker) → verdict (tasksOf w) ≡ Verdict.Misses L b
-      → patternRefusal w out ≡ shortFor (dispatch (named L (tasksOf w))) out
-  unfolding patternRefusal patternRows refusal-of
-  misses-refusal e L b m = ap₂ refusal-of e m ∙ only (ltb (length out) (4 * length (dispatch (named L (tasksOf w)))))
+    its-refusal : patternRefusal w out ≡ shortFor (dispatch (named L (tasksOf w))) out
+    unfolding patternRefusal
+    its-refusal = rw (ok, m, its-rows) (only (ltb (length out) (4 * length (dispatch (named L (tasksOf w))))))
 
-  pub shows : tableRefusal w ≡ none → (v : Verdict) → v ≡ verdict (tasksOf w) → (L : ℕ) (b : Blocker) → v ≡ Verdict.Misses L b
-      → (a : PatternAnswer) (exit : List ℕ) → ShowsRows (dispatch (named L (tasksOf w))) out a exit → Shows w out a exit
-  unfolding patternAnswer patternBuffer
-  shows e v f L b g a exit x =
-      let p = misses-refusal e L b (sym f ∙ g) in
-      let q = misses-rows L b (sym f ∙ g) in
-      record { says = x .says ∙ sym (ap₂ says-of p q); leaves = x .leaves ∙ sym (ap₂ leaves-of p q) }
+    pub shows : (a : PatternAnswer) (exit : List ℕ) → ShowsRows (dispatch (named L (tasksOf w))) out a exit → Shows w out a exit
+    unfolding patternAnswer patternBuffer
+    shows a exit x = record { says = rw (its-refusal, its-rows) (x .says); leaves = rw (its-refusal, its-rows) (x .leaves) }
 
   -- where rows are written, the promise of "misses" names one that is late
   late-row : (v : Verdict) → isMisses v ≡ true → Kept (tasksOf w) v → (x : Row) × List·Memᴰ x (dispatch (namedBy v w)) × (late x ≡ true)
@@ -117,7 +91,7 @@ module _ (w out : List ℕ) where
       test : Option Refusal
       test = NotMisses when not (isMisses (verdict (tasksOf w)))
 
-      go : (o : Option Refusal) → patternRefusal w out ≡ o → OneLate w (says-of o (patternRows w))
+      go : (o : Option Refusal) → patternRefusal w out ≡ o → OneLate w (answering o PatternAnswer.Refused (PatternAnswer.Rows (length (patternRows w))))
       go (some r) e = tt
       go none e =
           let a = not-given (tableRefusal w) (test ∷ shortFor (patternRows w) out ∷ []) e in

@@ -1,11 +1,11 @@
 -- The named pattern as two arrays, and the late row of a pattern that is shown.
 use mathlib.Core.Path.{_≡_}
-use Prim.Native.Nat.{ℕ, _*_, _<_}
+use Prim.Native.Nat.{ℕ, _*_}
 use mathlib.Core.List.{List, List·Memᴰ}
 use mathlib.Core.Bool.{true}
 use mathlib.Core.Option.{Option}
 use lib.Dec.{ltb}
-use lib.ListN.{length, getD}
+use lib.ListN.{length}
 use Rattle.rules.specs.Refusals.{_when_, answering, lent}
 use Rattle.rules.specs.Dispatch.{Row, late, rowWords}
 use Rattle.rules.specs.Jobs.{countWithin}
@@ -15,10 +15,9 @@ use Rattle.rules.specs.declared.Refusal.{Refusal}
 use Rattle.rules.specs.declared.Refusal.the-variants.{TooShort}
 use Rattle.rules.specs.declared.PatternAnswer.{PatternAnswer}
 
--- of each of the first m tasks how many jobs are due within a length
-pub record DueCounts (w : List ℕ) (L m : ℕ) (c : List ℕ) : Type 0 where
-  pub full : length c ≡ 64
-  pub at : (k : ℕ) → k < m → getD c k 0 ≡ countWithin L (taskIn w k)
+-- how many jobs of task k are due within a length
+abbrev pub dueAt : List ℕ → ℕ → ℕ → ℕ
+dueAt w L k = countWithin L (taskIn w k)
 
 -- refusal 6 of some rows
 abbrev pub shortFor : List Row → List ℕ → Option Refusal

@@ -5,8 +5,8 @@ ghost use Rattle.rules.specs.Dispatch.{dispatch};
 ghost use Rattle.rules.specs.Jobs.{named};
 ghost use Rattle.rules.specs.Calls.{Shows};
 ghost use Rattle.demand.specs.Parts.{taskCount, ValidTable};
-ghost use Rattle.dispatch.specs.Plan.{plannedRows};
-ghost use Rattle.pattern.specs.Plans.{DueCounts, ShowsRows, OneLate};
+ghost use Rattle.dispatch.specs.Plan.{Filled, plannedRows};
+ghost use Rattle.pattern.specs.Plans.{dueAt, ShowsRows, OneLate};
 use demand::blocker_at;
 use demand::count_of;
 use demand::words_of;
@@ -29,7 +29,7 @@ pub struct Plan {
 // Of each task how many jobs are due within a length.
 fn due_counts(table: &[u32], length: u32) -> [u32; 64]
     requires { ⌜ ValidTable (now table) ⌝ }
-    ensures { λ r. ⌜ DueCounts (now (table .entry)) length (taskCount (now (table .entry))) r ⌝ }
+    ensures { λ r. ⌜ Filled (dueAt (now (table .entry)) length) (taskCount (now (table .entry))) r ⌝ }
 {
     let m = table.len() / 4;
     let mut count = [0u32; 64];

@@ -1,4 +1,4 @@
-use mathlib.Core.Path.{_≡_, ap}
+use mathlib.Core.Path.{_≡_, sym, ap, _∙_}
 use mathlib.Core.Option.{none}
 use borrow.Author.Needs.{needs}
 use denote.Ref.{now}
@@ -50,7 +50,7 @@ returns-2 : tie.Need-returns-2
 returns-2 c =
     let j = c .before .before .before .before .before .before .before in
     let m = c .before .before .before .before .before .judged .given .1 in
-    let x = shows _ _ (fine (j .before)) _ (j .judge-table .ensures) _ _ m _ _ (c .before .before .show .ensures) in
+    let x = shows _ _ (fine (j .before)) _ _ (sym (j .judge-table .ensures) ∙ m) _ _ (c .before .before .show .ensures) in
     (x, late-shown _ _ _ (x .says))
 
 returns-3 : tie.Need-returns-3

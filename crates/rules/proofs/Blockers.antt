@@ -1,5 +1,5 @@
 -- The wait and the blocker are those of document 01: the greatest C − 1, and the lowest-numbered task with the greatest C.
-use mathlib.Core.Path.{_≡_, refl, sym, ap, subst, _∙_}
+use mathlib.Core.Path.{_≡_, refl, ap, subst}
 use mathlib.Core.Logic.{_↔_}
 use Prim.Native.Nat.{ℕ, zero, suc, _+_, _-_, _≤_, _<_, max}
 use native.Mathlib.Omega.{arith}
@@ -8,12 +8,11 @@ use mathlib.Core.List.{List, [], _∷_}
 use mathlib.Core.Bool.{Bool, true, false, _&&_}
 use lib.Dec.{ltb, eqb}
 use lib.ListN.{length}
-use borrow.Author.Tests.{ltb-true, ltb-false, lt-ltb, le-ltb, eqb-true, eqb-false}
+use borrow.Author.Tests.{ltb-true, ltb-false, lt-ltb, eqb-true, eqb-false}
 use Rattle.rules.specs.Choice.{if_then_else_}
 use Rattle.rules.specs.Task.{Task, taskAt}
 use Rattle.rules.specs.Demand.{wait, Wait, firstWaiting, blocker}
 use Rattle.rules.specs.declared.Blocker.{Blocker}
-use Rattle.rules.proofs.Tests.{both-true, both-false}
 
 -- Wait(L) is at least C − 1 of each task with D above L
 pub wait-most : (L : ℕ) (ts : List Task) (k : ℕ) → k < length ts → L < taskAt ts k .D → taskAt ts k .C - 1 ≤ Wait L ts

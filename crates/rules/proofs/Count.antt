@@ -1,19 +1,19 @@
 -- How long the jobs of a legal pattern can run in all: those due in a window at most Due, those released in one at most work.
 use mathlib.Core.Path.{_≡_, refl, _∙_}
+use mathlib.Core.Logic.{_⊎_, inl, inr}
 use Prim.Native.Nat.{ℕ, zero, suc, _+_, _-_, _*_, _/_, max, min, _≤_, _<_}
 use native.Mathlib.Nat.{lt-mul-div-succ, mul-add, mul-suc, mul-zero, add-comm, zero-add}
 use native.Mathlib.Omega.{arith}
 use mathlib.Core.List.{List, [], _∷_, List·Memᴰ, List·Memᴰ·head, List·Memᴰ·tail, List·Memᴰ·not-nil}
 use mathlib.Core.Bool.{Bool, true, false, not, _&&_}
-use borrow.Author.Tests.{not-true, eqb-true, eqb-false, leb-true, ltb-true, ltb-false, le-leb, lt-ltb}
+use borrow.Author.Tests.{not-true, eqb-true, eqb-false, leb-true, ltb-true, ltb-false, le-leb, lt-leb, lt-ltb}
 use lib.Dec.{eqb, leb, ltb}
-use Rattle.rules.specs.Choice.{if_then_else_}
 use Rattle.rules.specs.Task.{Task, taskAt, AllSound}
 use Rattle.rules.specs.Dispatch.{Job}
 use Rattle.rules.specs.Jobs.{countWithin}
 use Rattle.rules.specs.Legal.{Legal}
 use Rattle.rules.specs.Demand.{due, Due, ceiling, work}
-use Rattle.rules.proofs.Tests.{both-true}
+use Rattle.rules.proofs.Tests.{both-true, lt-or-ge}
 use Rattle.rules.proofs.Taken.{Taken, now, later}
 use Rattle.rules.proofs.Legal.{taskAt-sound, legal-fits}
 use Rattle.rules.proofs.Rest.{Rest, rest-all, rest-here, rest-next}
@@ -99,7 +99,7 @@ single ts (j ∷ js) l k x p h = go (p j) refl (single ts js (l .2) k x p (λ i 
     go : (b : Bool) → p j ≡ b → total p js ≤ taskAt ts k .C → amount b j + total p js ≤ taskAt ts k .C
     go false e ih = omega arith
     go true e ih =
-        let c : j .run ≤ taskAt ts k .C = rw (h j (List·Memᴰ·head refl) e .task) at (l .0 .within) in
+        let c = rw (h j (List·Memᴰ·head refl) e .task) at (l .0 .within) in
         omega (arith, total-none p js (alone e))
 
 -- in a window of n periods there are at most n: one in the first period, the others in the rest
@@ -142,7 +142,7 @@ module _ (ts : List Task) (js : List Job) (l : Legal ts js) (n : Task → ℕ) (
       → ((j : Job) → List·Memᴰ j js → p j ≡ true → (k ≤ j .task) × Inside ts n x j) → total p js ≤ load n us
   unfolding load
   load-from k [] R p h =
-      omega (arith, total-none p js (λ j m e. let w = h j m e in let f = legal-fits ts js l j m .known in let r = R .ends in omega arith))
+      omega (arith, total-none p js (λ j m e. let w = h j m e in let f = legal-fits ts js l j m .known in omega arith))
   load-from k (τ ∷ us) R p h =
       let one : total (λ j. p j && here j) js ≤ τ .C * n τ = rw (rest-here ts k τ us R) (packed ts js l k (n (taskAt ts k)) x _ first) in
       let others : total (λ j. p j && not (here j)) js ≤ load n us = load-from (suc k) us (rest-next ts k τ us R) _ rest in
@@ -172,11 +172,11 @@ module _ (ts : List Task) (js : List Job) (l : Legal ts js) (n : Task → ℕ) (
 -- Due and work are loads
 pub due-load : (L : ℕ) (τ : Task) → τ .C * countWithin L τ ≡ due L τ
 unfolding due countWithin
-due-load L τ = go (leb (τ .D) L)
+due-load L τ = go (lt-or-ge L (τ .D))
   where
-    go : (b : Bool) → τ .C * (if b then 1 + (L - τ .D) / τ .T else 0) ≡ (if b then τ .C * (1 + (L - τ .D) / τ .T) else 0)
-    go true = refl
-    go false = mul-zero (τ .C)
+    go : (ltb L (τ .D) ≡ true) ⊎ (leb (τ .D) L ≡ true) → τ .C * countWithin L τ ≡ due L τ
+    go (inl h) = rw (lt-leb (τ .D) L (ltb-true _ _ h)) (mul-zero (τ .C))
+    go (inr h) = rw h
 
 pub Due-load : (L : ℕ) (ts : List Task) → load (countWithin L) ts ≡ Due L ts
 unfolding load Due

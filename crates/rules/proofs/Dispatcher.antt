@@ -1,13 +1,17 @@
--- The dispatcher does what document 01, "Dispatch", says: for any list of jobs that differ pairwise in task or number.
+-- The dispatcher obeys document 01, "Dispatch", rule by rule, for any list of jobs that differ pairwise in task or number.
 use mathlib.Core.Path.{_≡_, refl, sym, ap, _∙_}
-use Prim.Native.Nat.{ℕ, zero, suc, _+_, _≤_, _<_, max}
+use Prim.Native.Nat.{ℕ, zero, suc, _+_, _≤_, _<_}
 use native.Mathlib.Omega.{arith}
 use mathlib.Core.List.{List, [], _∷_, List·Memᴰ, List·Memᴰ·head, List·Memᴰ·tail, List·Memᴰ·not-nil}
+use mathlib.Core.Bool.{false}
 use lib.ListN.{length, getD}
-use Rattle.rules.specs.Dispatch.{Job, Row, finish, earliest, ready, dispatch}
-use Rattle.rules.proofs.Taken.{Taken, taken-mem, taken-cases, Distinct}
+use Rattle.rules.specs.Task.{Task, AllSound}
+use Rattle.rules.specs.Dispatch.{Job, Row, finish, same, ready, dispatch}
+use Rattle.rules.specs.Legal.{Legal}
+use Rattle.rules.proofs.Taken.{Taken, now, later, taken-in, taken-mem, taken-cases, taken-length, taken-distinct, same-false, Distinct}
+use Rattle.rules.proofs.Legal.{legal-distinct}
 use Rattle.rules.proofs.Picked.{Ahead, Picked, earliest-least}
-use Rattle.rules.proofs.Runs.{Run, done, step, distinct-run, run-length, run-covers}
+use Rattle.rules.proofs.Runs.{Run, done, step, distinct-run}
 
 -- the row at a place
 abbrev pub rowAt : List Row → ℕ → Row
@@ -23,88 +27,118 @@ freeFrom t (w ∷ ws) (suc k) = freeFrom (finish w) ws k
 abbrev pub NotStarted : List Row → ℕ → Job → Type 0
 NotStarted ws k j = (i : ℕ) → i < k → rowAt ws i .job ≡ j → ⊥
 
--- what a run from tick t on does at a place
-record Right (t : ℕ) (js : List Job) (ws : List Row) (k : ℕ) : Type 0 where
-  given : List·Memᴰ (rowAt ws k .job) js
-  released : rowAt ws k .job .release ≤ rowAt ws k .start
-  free : freeFrom t ws k ≤ rowAt ws k .start
-  idle : (j : Job) → List·Memᴰ j js → NotStarted ws k j → freeFrom t ws k < rowAt ws k .start → rowAt ws k .start ≤ j .release
-  first : (j : Job) → List·Memᴰ j js → NotStarted ws k j → j .release ≤ rowAt ws k .start → Ahead (rowAt ws k .job) j
-
-run-right : {t : ℕ} {js : List Job} {ws : List Row} → Run t js ws → (k : ℕ) → k < length ws → Right t js ws k
-unfolding ready finish
-run-right done k h = absurd (omega arith)
-run-right (step {i = i} {js = js} s e P t r) zero h = record {
-  given = P .mem;
-  released = P .come;
-  free = omega arith;
-  idle = λ j m n f. let l = earliest-least i js j m in omega arith;
-  first = λ j m n. P .first j m;
-}
-run-right (step {t = f} {i = o} {j = i} {js = js} {ks = ks} {ws = ws} s e P t r) (suc k) h = go (run-right r k (omega arith))
-  where
-    left : (j : Job) → List·Memᴰ j (o ∷ js) → NotStarted (record { job = i; start = s } ∷ ws) (suc k) j → List·Memᴰ j ks
-    left j m n = taken-cases t j m (List·Memᴰ j ks) (λ q. absurd (n 0 (omega arith) (sym q))) (λ x. x)
-
-    go : Right (s + i .run) ks ws k → Right f (o ∷ js) (record { job = i; start = s } ∷ ws) (suc k)
-    go x = record {
-      given = taken-mem t _ (x .given);
-      released = x .released;
-      free = x .free;
-      idle = λ j m n. x .idle j (left j m n) (λ l a. n (suc l) (omega arith));
-      first = λ j m n. x .first j (left j m n) (λ l a. n (suc l) (omega arith));
-    }
-
--- every row starts at t or later
-run-after : {t : ℕ} {js : List Job} {ws : List Row} → Run t js ws → (k : ℕ) → k < length ws → t ≤ rowAt ws k .start
-unfolding ready
-run-after done k h = absurd (omega arith)
-run-after (step s e P t r) zero h = omega arith
-run-after (step s e P t r) (suc k) h = let ih = run-after r k (omega arith) in omega arith
-
-run-apart : {t : ℕ} {js : List Job} {ws : List Row} → Run t js ws → (i k : ℕ) → i < k → k < length ws → finish (rowAt ws i) ≤ rowAt ws k .start
-unfolding finish
-run-apart done i k l h = absurd (omega arith)
-run-apart (step s e P t r) i zero l h = absurd (omega arith)
-run-apart (step s e P t r) zero (suc k) l h = run-after r k (omega arith)
-run-apart (step s e P t r) (suc i) (suc k) l h = run-apart r i k (omega arith) (omega arith)
-
--- the rows of a list of jobs that differ pairwise
-module _ (js : List Job) (d : Distinct js) where
-  right : (k : ℕ) → k < length (dispatch js) → Right 0 js (dispatch js) k
-  right = run-right (distinct-run js d)
-
-  -- there are as many rows as jobs, and every job has a row
-  pub as-many : length (dispatch js) ≡ length js
-  as-many = run-length (distinct-run js d)
-
-  pub every-job : (j : Job) → List·Memᴰ j js → (w : Row) × List·Memᴰ w (dispatch js) × (w .job ≡ j)
-  every-job = run-covers (distinct-run js d)
-
+-- the rules, for the rows of the jobs js with the tile free from tick t on
+pub record Obeys (t : ℕ) (js : List Job) (ws : List Row) : Type 0 where
   -- every row runs one of the jobs
-  pub of-jobs : (k : ℕ) → k < length (dispatch js) → List·Memᴰ (rowAt (dispatch js) k .job) js
-  of-jobs k h = right k h .given
-
+  pub of-jobs : (k : ℕ) → k < length ws → List·Memᴰ (rowAt ws k .job) js
+  -- every job has a row
+  pub every-job : (j : Job) → List·Memᴰ j js → (k : ℕ) × (k < length ws) × (rowAt ws k .job ≡ j)
+  -- and no job has two
+  pub once : (i k : ℕ) → i < k → k < length ws → rowAt ws i .job ≡ rowAt ws k .job → ⊥
+  -- there are as many rows as jobs
+  pub as-many : length ws ≡ length js
   -- no job starts before its release
-  pub not-early : (k : ℕ) → k < length (dispatch js) → rowAt (dispatch js) k .job .release ≤ rowAt (dispatch js) k .start
-  not-early k h = right k h .released
-
-  -- no two rows overlap: the row at an earlier place finishes by the start of the later
-  pub no-overlap : (i k : ℕ) → i < k → k < length (dispatch js) → finish (rowAt (dispatch js) i) ≤ rowAt (dispatch js) k .start
-  no-overlap = run-apart (distinct-run js d)
-
+  pub not-early : (k : ℕ) → k < length ws → rowAt ws k .job .release ≤ rowAt ws k .start
+  -- nor before the tile is free
+  pub tile-free : (k : ℕ) → k < length ws → freeFrom t ws k ≤ rowAt ws k .start
+  -- two rows never overlap: the one at the earlier place finishes by the start of the other
+  pub no-overlap : (i k : ℕ) → i < k → k < length ws → finish (rowAt ws i) ≤ rowAt ws k .start
   -- rows stand in order of start
-  pub in-order : (i k : ℕ) → i < k → k < length (dispatch js) → rowAt (dispatch js) i .start ≤ rowAt (dispatch js) k .start
-  unfolding finish
-  in-order i k l h = let x = no-overlap i k l h in omega arith
+  pub in-order : (i k : ℕ) → i < k → k < length ws → rowAt ws i .start ≤ rowAt ws k .start
+  -- the tile is never idle while a job is pending: where it was free before the start, no job not yet started is released before the start
+  pub never-idle : (k : ℕ) → k < length ws → (j : Job) → List·Memᴰ j js → NotStarted ws k j
+      → freeFrom t ws k < rowAt ws k .start → rowAt ws k .start ≤ j .release
+  -- of the pending jobs, released and not yet started, the one with the least deadline starts; of equal deadlines the lower task
+  pub least-first : (k : ℕ) → k < length ws → (j : Job) → List·Memᴰ j js → NotStarted ws k j
+      → j .release ≤ rowAt ws k .start → Ahead (rowAt ws k .job) j
 
-  -- the tile is never idle while a job is pending: where a row starts after the tile is free, no job that has not started is released before
-  pub never-idle : (k : ℕ) → k < length (dispatch js) → freeFrom 0 (dispatch js) k < rowAt (dispatch js) k .start
-      → (j : Job) → List·Memᴰ j js → NotStarted (dispatch js) k j → rowAt (dispatch js) k .start ≤ j .release
-  never-idle k h f j m n = right k h .idle j m n f
+-- a job taken out of such a list is not left in it
+equal-same : (i j : Job) → i ≡ j → same i j ≡ false → ⊥
+equal-same i j q e = same-false i j e (ap (λ (x : Job). x .task) q) (ap (λ (x : Job). x .number) q)
 
-  -- of the pending jobs, released and not started, the one with the least deadline starts; of equal deadlines the lower task
-  pub least-first : (k : ℕ) → k < length (dispatch js)
-      → (j : Job) → List·Memᴰ j js → NotStarted (dispatch js) k j → j .release ≤ rowAt (dispatch js) k .start
-      → Ahead (rowAt (dispatch js) k .job) j
-  least-first k h = right k h .first
+pub taken-gone : {j : Job} {js ks : List Job} → Taken j js ks → Distinct js → (i : Job) → List·Memᴰ i ks → i ≡ j → ⊥
+taken-gone (now e) d i m q = equal-same _ _ (q ∙ e) (d .0 i m)
+taken-gone (later t) d i (List·Memᴰ·head e) q = equal-same _ _ (sym q ∙ e) (d .0 _ (taken-in t))
+taken-gone (later t) d i (List·Memᴰ·tail m) q = taken-gone t (d .1) i m q
+
+-- where each row starts when the tile is free, all start at t or later, and no two overlap
+abbrev Free : ℕ → List Row → Type 0
+Free t ws = (k : ℕ) → k < length ws → freeFrom t ws k ≤ rowAt ws k .start
+
+free-after : (t : ℕ) (ws : List Row) → Free t ws → (k : ℕ) → k < length ws → t ≤ rowAt ws k .start
+unfolding finish
+free-after t [] f k h = absurd (omega arith)
+free-after t (w ∷ ws) f zero h = f 0 h
+free-after t (w ∷ ws) f (suc k) h =
+    let a = f 0 (omega arith) in
+    let b = free-after (finish w) ws (λ l m. f (suc l) (omega arith)) k (omega arith) in
+    omega arith
+
+free-apart : (t : ℕ) (ws : List Row) → Free t ws → (i k : ℕ) → i < k → k < length ws → finish (rowAt ws i) ≤ rowAt ws k .start
+free-apart t [] f i k l h = absurd (omega arith)
+free-apart t (w ∷ ws) f i zero l h = absurd (omega arith)
+free-apart t (w ∷ ws) f zero (suc k) l h = free-after (finish w) ws (λ x m. f (suc x) (omega arith)) k (omega arith)
+free-apart t (w ∷ ws) f (suc i) (suc k) l h = free-apart (finish w) ws (λ x m. f (suc x) (omega arith)) i k (omega arith) (omega arith)
+
+-- one row more, before those of the jobs that are left
+module _ (t s : ℕ) (i j : Job) (js ks : List Job) (ws : List Row) (P : Picked s (i ∷ js) j) (K : Taken j (i ∷ js) ks) where
+  abbrev first : Row
+  first = record { job = j; start = s }
+
+  left : (x : Job) (k : ℕ) → List·Memᴰ x (i ∷ js) → NotStarted (first ∷ ws) (suc k) x → List·Memᴰ x ks
+  left x k m n = taken-cases K x m (List·Memᴰ x ks) (λ q. absurd (n 0 (omega arith) (sym q))) (λ y. y)
+
+  free-cons : s ≡ ready t (i ∷ js) → Free (s + j .run) ws → Free t (first ∷ ws)
+  unfolding ready finish
+  free-cons e f zero h = omega arith
+  free-cons e f (suc k) h = f k (omega arith)
+
+  obeys-cons : s ≡ ready t (i ∷ js) → Distinct (i ∷ js) → Obeys (s + j .run) ks ws → Obeys t (i ∷ js) (first ∷ ws)
+  unfolding ready finish
+  obeys-cons e d x = record {
+    of-jobs = elim [ zero ↦ λ h. P .mem | suc k ↦ λ h. taken-mem K _ (x .of-jobs k (omega arith)) ];
+    every-job = λ y m. taken-cases K y m _ (λ q. (0, omega arith, sym q)) (λ n. let (k, l, q) = x .every-job y n in (suc k, omega arith, q));
+    once = elim [
+      | zero ↦ elim [ zero ↦ λ l. absurd (omega arith) | suc k ↦ λ l h q. taken-gone K d _ (x .of-jobs k (omega arith)) (sym q) ]
+      | suc a ↦ elim [ zero ↦ λ l. absurd (omega arith) | suc k ↦ λ l h. x .once a k (omega arith) (omega arith) ]
+    ];
+    as-many = let a = taken-length K in let b = x .as-many in omega arith;
+    not-early = elim [ zero ↦ λ h. P .come | suc k ↦ λ h. x .not-early k (omega arith) ];
+    tile-free = free-cons e (x .tile-free);
+    no-overlap = free-apart t (first ∷ ws) (free-cons e (x .tile-free));
+    in-order = λ a k l h. let o = free-apart t (first ∷ ws) (free-cons e (x .tile-free)) a k l h in omega arith;
+    never-idle = elim [
+      | zero ↦ λ h y m n f. let l = earliest-least i js y m in omega arith
+      | suc k ↦ λ h y m n. x .never-idle k (omega arith) y (left y k m n) (λ l a. n (suc l) (omega arith))
+    ];
+    least-first = elim [
+      | zero ↦ λ h y m n. P .first y m
+      | suc k ↦ λ h y m n. x .least-first k (omega arith) y (left y k m n) (λ l a. n (suc l) (omega arith))
+    ];
+  }
+
+obeys-none : (t : ℕ) → Obeys t [] []
+obeys-none t = record {
+  of-jobs = λ k h. absurd (omega arith);
+  every-job = λ j m. absurd (List·Memᴰ·not-nil m);
+  once = λ i k l h. absurd (omega arith);
+  as-many = refl;
+  not-early = λ k h. absurd (omega arith);
+  tile-free = λ k h. absurd (omega arith);
+  no-overlap = λ i k l h. absurd (omega arith);
+  in-order = λ i k l h. absurd (omega arith);
+  never-idle = λ k h. absurd (omega arith);
+  least-first = λ k h. absurd (omega arith);
+}
+
+run-obeys : {t : ℕ} {js : List Job} {ws : List Row} → Run t js ws → Distinct js → Obeys t js ws
+run-obeys done d = obeys-none _
+run-obeys (step s e P K r) d = obeys-cons _ s _ _ _ _ _ P K e d (run-obeys r (taken-distinct K d))
+
+-- the dispatcher obeys the rules
+pub dispatch-obeys : (js : List Job) → Distinct js → Obeys 0 js (dispatch js)
+dispatch-obeys js d = run-obeys (distinct-run js d) d
+
+-- so it does for every legal pattern
+pub legal-obeys : (ts : List Task) → AllSound ts → (js : List Job) → Legal ts js → Obeys 0 js (dispatch js)
+legal-obeys ts sound js l = dispatch-obeys js (legal-distinct ts sound js l)

@@ -50,7 +50,6 @@ unfolding since ready
 late-behind X c done b m z full by some more = absurd (List·Memᴰ·not-nil m)
 late-behind X c (step {i = i} {j = j} {js = is} {ks = ks} s e P k r) b m z full by some more =
     let h = earliest-least i is b m in
-    let come = P .come in
     let f = full j (P .mem) (omega arith) in
     let t = total-stays (since 1) k (lt-leb 1 (j .release) (omega arith)) in
     late-later (late-run (since 1) X r (λ x n. by x (taken-mem k x n)) (omega arith) (omega arith))

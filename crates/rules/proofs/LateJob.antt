@@ -2,7 +2,7 @@
 use mathlib.Core.Path.{_≡_, refl, sym, ap, _∙_}
 use mathlib.Core.Logic.{_↔_}
 use mathlib.Core.Option.{Option, none, some}
-use Prim.Native.Nat.{ℕ, _≤_, _<_}
+use Prim.Native.Nat.{ℕ}
 use native.Mathlib.Omega.{arith}
 use mathlib.Core.List.{List, [], _∷_, List·Memᴰ, List·Memᴰ·head, List·Memᴰ·tail, List·Memᴰ·not-nil}
 use mathlib.Core.Bool.{Bool, true, false, _&&_, _||_}
@@ -104,3 +104,19 @@ late-some ws j = go (lateJob ws) (names ws)
     go (some i) (somebody x) e =
         let q : i ≡ j = cc in
         ((x .row, x .mem, x .is-late, x .its-job ∙ q), λ v m h. rw q at (ahead-first i (v .job) (x .ahead v m h)))
+
+-- and where two jobs of one task never have the same deadline, no other job is both
+pub late-only : (ws : List Row) → ((v : Row) → List·Memᴰ v ws → (w : Row) → List·Memᴰ w ws → v .job .task ≡ w .job .task → v .job .deadline ≡ w .job .deadline → v .job ≡ w .job)
+    → (w : Row) → List·Memᴰ w ws → late w ≡ true → ((v : Row) → List·Memᴰ v ws → late v ≡ true → before (v .job) (w .job) ≡ false)
+    → lateJob ws ≡ some (w .job)
+late-only ws ties w m l first = go (lateJob ws) (names ws)
+  where
+    go : (o : Option Job) → Named ws o → o ≡ some (w .job)
+    go none (nobody f) = true-is-not-false (sym l ∙ f w m)
+    go (some j) (somebody x) =
+        let a : Ahead (x .row .job) (w .job) = rw (x .its-job) (x .ahead w m l) in
+        let b = before-false (x .row .job) (w .job) (first (x .row) (x .mem) (x .is-late)) in
+        let d : x .row .job .deadline ≡ w .job .deadline = omega arith in
+        let p = a .task d in
+        let q = b .task (sym d) in
+        ap some (sym (x .its-job) ∙ ties (x .row) (x .mem) w m (omega arith) d)

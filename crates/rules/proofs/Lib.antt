@@ -1,9 +1,12 @@
 -- Laws about the definitions.
 pub mod Members
 pub mod Dispatcher
+pub mod Determined
 pub mod Blockers
 pub mod LateJob
 pub mod Refused
+pub mod RefusedCalls
+pub mod Stars
 pub mod Tests
 pub mod Tables
 pub mod Taken

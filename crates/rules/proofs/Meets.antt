@@ -71,7 +71,6 @@ module _ (ts : List Task) (sound : AllSound ts) (σ : ℕ) (pos : 1 ≤ σ) (clo
       go (inl e) =
           let lt = ltb-true (earliest j js) t e in
           let x = earliest-some j js in
-          let s = B .span in
           let one = total-some (early (B .b + σ)) (j ∷ js) (x .0) (x .1) (is-early (B .b + σ) (x .0) (omega arith)) in
           let f = legal-fits ts (j ∷ js) l (x .0) (x .1) .runs in
           (record { b = B .b; a = B .a; order = B .order; from-b = B .from-b; span = omega arith; from-a = B .from-a; room = omega arith }, omega arith)
@@ -102,20 +101,16 @@ module _ (ts : List Task) (sound : AllSound ts) (σ : ℕ) (pos : 1 ≤ σ) (clo
 
         span : s + j .run + total (early (B .b + σ)) ks ≤ B .b + σ
         span =
-            let h = P .come in
             let e = total-drops (early (B .b + σ)) gone (is-early (B .b + σ) j (omega arith)) in
-            let k = B .span in
             omega arith
 
         go : (ltb d (j .deadline) ≡ true) ⊎ (leb (j .deadline) d ≡ true) → Busy ts σ d (s + j .run) ks
         go (inr e) =
             let k = total-drops (dueBy d) gone (is-due d j (leb-true _ _ e)) in
-            let r = B .room in
             record { b = B .b; a = B .a; order = B .order; from-b = from-b; span = span; from-a = λ i m. B .from-a i (taken-mem gone i m); room = omega arith }
         go (inl e) =
             let h : d < j .deadline = ltb-true _ _ e in
             let c = count-due ts sound ks (taken-legal ts gone l) (s + 1) d (still h) in
-            let p = P .come in
             let q = B .from-b j (P .mem) in
             let f = fits in
             let z = its-task .D-pos in
@@ -126,24 +121,20 @@ module _ (ts : List Task) (sound : AllSound ts) (σ : ℕ) (pos : 1 ≤ σ) (clo
     on-time : ((L : ℕ) → 1 ≤ L → L < σ → fails L ts ≡ false) → j .deadline ≤ d → s + j .run ≤ d
     on-time ok h = go (lt-or-ge (d - B .a) σ)
       where
-        due-in : B .a + taskAt ts (j .task) .D ≤ d
-        due-in = let q = B .from-a j (P .mem) h in let r = fits .due in omega arith
+        window : B .a + taskAt ts (j .task) .D ≤ d
+        window = let q = B .from-a j (P .mem) h in let r = fits .due in omega arith
 
         go : (ltb (d - B .a) σ ≡ true) ⊎ (leb σ (d - B .a) ≡ true) → s + j .run ≤ d
         go (inl e) =
-            let i = due-in in
+            let i = window in
             let z = its-task .D-pos in
             let some = due-some (d - B .a) ts (j .task) (fits .known) (omega arith) (its-task .C-pos) in
             let k = fails-false (d - B .a) ts (ok (d - B .a) (omega arith) (ltb-true _ _ e)) some in
-            let r = B .room in
             omega (arith, total-some (dueBy d) js j (P .mem) (is-due d j h))
         go (inr e) =
-            let i = due-in in
+            let i = window in
             let k : σ ≤ d - B .a = leb-true _ _ e in
             let z = its-task .D-pos in
-            let r = B .span in
-            let o = B .order in
-            let c = P .come in
             omega (arith, total-some (early (B .b + σ)) js j (P .mem) (is-early (B .b + σ) j (omega arith)))
 
   -- the rows that are due by d end by d

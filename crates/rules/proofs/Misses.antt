@@ -44,7 +44,6 @@ trains-total : (ts : List Task) (plan : ℕ → Task → Train) (L : ℕ) (p : J
 unfolding trains Due total
 trains-total ts plan L p each k [] R = refl
 trains-total ts plan L p each k (τ ∷ us) R =
-    let r = R .ends in
     let one : total p (trainOf plan k τ) ≡ due L τ = rw (rest-here ts k τ us R) (each k (omega arith)) in
     let ih = trains-total ts plan L p each (suc k) us (rest-next ts k τ us R) in
     omega (arith, total-append p (trainOf plan k τ) (trains plan (suc k) us))

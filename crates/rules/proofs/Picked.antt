@@ -92,19 +92,20 @@ module _ (s : ℕ) (j : Job) (js : List Job) where
     first = mem-cons (λ k. k .release ≤ s → Ahead j k) (λ x. ahead-self j) h;
   })
 
-  pick-cons : (b : Bool) → leb (j .release) s ≡ b → (o : Option Job) → Pick s js o → Pick s (j ∷ js) (if b then sooner j o else o)
+  pick-cons : (b : Bool) → (b ≡ true → j .release ≤ s) → (b ≡ false → s < j .release) → (o : Option Job) → Pick s js o
+      → Pick s (j ∷ js) (if b then sooner j o else o)
   unfolding sooner
-  pick-cons false e none (nobody f) = nobody (mem-cons (λ i. s < i .release) (leb-false _ _ e) f)
-  pick-cons false e (some i) (somebody p) = keep i p (λ r. let l = leb-false (j .release) s e in absurd (omega arith))
-  pick-cons true e none (nobody f) = change (leb-true _ _ e) (λ i m r. let l = f i m in absurd (omega arith))
-  pick-cons true e (some i) (somebody p) = go (before i j) refl
+  pick-cons false come not-yet none (nobody f) = nobody (mem-cons (λ i. s < i .release) (not-yet refl) f)
+  pick-cons false come not-yet (some i) (somebody p) = keep i p (λ r. let l = not-yet refl in absurd (omega arith))
+  pick-cons true come not-yet none (nobody f) = change (come refl) (λ i m r. let l = f i m in absurd (omega arith))
+  pick-cons true come not-yet (some i) (somebody p) = go (before i j) refl
     where
       go : (c : Bool) → before i j ≡ c → Pick s (j ∷ js) (if c then some i else some j)
       go true q = keep i p (λ r. before-true i j q)
-      go false q = change (leb-true _ _ e) (λ k m r. ahead-trans j i k (before-false i j q) (p .first k m r))
+      go false q = change (come refl) (λ k m r. ahead-trans j i k (before-false i j q) (p .first k m r))
 
 -- what `pick` returns
 pub picks : (s : ℕ) (js : List Job) → Pick s js (pick s js)
 unfolding pick
 picks s [] = nobody (λ i m. absurd (List·Memᴰ·not-nil m))
-picks s (j ∷ js) = pick-cons s j js (leb (j .release) s) refl (pick s js) (picks s js)
+picks s (j ∷ js) = pick-cons s j js _ (leb-true _ _) (leb-false _ _) (pick s js) (picks s js)

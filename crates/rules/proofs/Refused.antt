@@ -1,27 +1,22 @@
--- Each refusal is given exactly when document 01's table says, in the order that it gives.
+-- Refusals 1 to 4 are given exactly when document 01's table says.
 use mathlib.Core.Path.{_≡_, refl, sym, ap, subst, _∙_}
-use mathlib.Core.Logic.{_↔_, Iff·rfl, _⊎_, inl, inr}
+use mathlib.Core.Logic.{_↔_}
 use mathlib.Core.Option.{Option, none, some}
-use Prim.Native.Nat.{ℕ, zero, suc, _+_, _*_, _%_, _≤_, _<_}
+use Prim.Native.Nat.{ℕ, zero, suc, _+_, _%_, _≤_, _<_}
 use native.Mathlib.Nat.{add-zero, zero-add}
 use native.Mathlib.Omega.{arith}
 use native.Mathlib.Decide.{decLt}
-use mathlib.Core.List.{List, [], _∷_, _++_}
-use mathlib.Core.Bool.{Bool, true, false, not, _&&_, _||_}
+use mathlib.Core.List.{List, [], _∷_}
+use mathlib.Core.Bool.{Bool, true, false, not}
 use lib.Dec.{leb, ltb, eqb}
 use lib.ListN.{length, getD}
-use borrow.Author.Tests.{leb-true, leb-false, ltb-true, ltb-false, eqb-true, eqb-false, le-leb, lt-ltb, le-ltb, eq-eqb, ne-eqb}
+use borrow.Author.Tests.{leb-true, ltb-true, ltb-false, eqb-true, eqb-false, le-leb, lt-ltb, le-ltb, eq-eqb, ne-eqb}
 use Rattle.rules.specs.Choice.{if_then_else_}
-use Rattle.rules.specs.Task.{tasksOf}
 use Rattle.rules.specs.Refusals.{numberOf, _when_, firstOf}
 use Rattle.rules.specs.Table.{wordMost, wordLeast, inRange, outOfRange, tableRefusal}
-use Rattle.rules.specs.Demand.{verdict}
-use Rattle.rules.specs.Text.{Lines, took, stop, readSet, wordsRead, writeSet}
-use Rattle.rules.specs.Answers.{lineRefusal, readRefusal, writeRefusal, endMost, scheduleRows, scheduleRefusal, isMisses, patternRows, patternRefusal}
 use Rattle.rules.specs.declared.Refusal.{Refusal}
 use Rattle.rules.specs.declared.Refusal.the-variants.{NoWord, NotFours, TooManyWords, OutOfRange, BadEnd, TooShort, BadLine, NotMisses}
 use Rattle.rules.proofs.Tests.{both, both-true, true-is-not-false}
-use Rattle.rules.proofs.Tables.{not-given}
 
 -- a word at an index is in its range: C, D and T are 1 to 65,535, R is 0 to 65,535
 pub record Ranged (i x : ℕ) : Type 0 where
@@ -155,189 +150,16 @@ table-says w o = (λ e. subst (TableSays w) e (says (eqb (length w) 0) refl (eqb
     is (some (BadLine l)) x = absurd x
     is (some NotMisses) x = absurd x
 
--- a refusal that no entry of the list gives
-abbrev pub Never : Refusal → List (Option Refusal) → Type 0
-Never r [] = Unit {0}
-Never r (o ∷ os) = (o ≡ some r → ⊥) × Never r os
-
--- none of the list is given exactly if no entry is
-pub none-given : (o : Option Refusal) (os : List (Option Refusal)) → (firstOf (o ∷ os) ≡ none) ↔ ((o ≡ none) × (firstOf os ≡ none))
-none-given o os = (not-given o os, λ x. rw (x .0) (x .1))
-
-given-or-not : {A : Type 0} {r : Refusal} → _≡_ {A = Option Refusal} none (some r) → A
-given-or-not e = let z : _≡_ {A = ℕ} 0 1 = cc in absurd (omega arith)
-
-never-given : (r : Refusal) (os : List (Option Refusal)) → Never r os → firstOf os ≡ some r → ⊥
-never-given r [] n e = given-or-not e
-never-given r (none ∷ os) n e = never-given r os (n .1) e
-never-given r (some s ∷ os) n e = n .0 e
-
--- a refusal that stands at one place of the order is given exactly when its test holds and nothing before it is given
-pub in-turn : (r : Refusal) (b : Bool) (before after : List (Option Refusal)) → Never r before → Never r after
-    → (firstOf (before ++ ((r when b) ∷ after)) ≡ some r) ↔ ((firstOf before ≡ none) × (b ≡ true))
-in-turn r true [] after n m = (λ e. (refl, refl), λ x. refl)
-in-turn r false [] after n m = (λ e. absurd (never-given r after m e), λ x. true-is-not-false (sym (x .1)))
-in-turn r b (none ∷ os) after n m = in-turn r b os after (n .1) m
-in-turn r b (some s ∷ os) after n m = (λ e. absurd (n .0 e), λ x. given-or-not (sym (x .0)))
-
--- the one that stands first is given exactly when it is given alone
-pub at-once : (o : Option Refusal) (os : List (Option Refusal)) (r : Refusal) → Never r os → (firstOf (o ∷ os) ≡ some r) ↔ (o ≡ some r)
-at-once none os r n = (λ e. absurd (never-given r os n e), λ e. given-or-not e)
-at-once (some s) os r n = (λ e. e, λ e. e)
-
--- a test of another number does not give a refusal, and a table none but 1 to 4
-other : (r s : Refusal) (b : Bool) → (numberOf r ≡ numberOf s → ⊥) → (r when b) ≡ some s → ⊥
-other r s true n e = let q : r ≡ s = cc in n (ap numberOf q)
-other r s false n e = given-or-not e
-
-not-table : (w : List ℕ) (r : Refusal) → (TableSays w (some r) → ⊥) → tableRefusal w ≡ some r → ⊥
-not-table w r n e = n (table-says w (some r) .0 e)
-
--- tests, read both ways
-test-lt : (a b : ℕ) → (ltb a b ≡ true) ↔ (a < b)
-test-lt a b = (ltb-true a b, lt-ltb a b)
-
-when-none : (r : Refusal) (b : Bool) → ((r when b) ≡ none) ↔ (b ≡ false)
-when-none r true = (λ e. given-or-not (sym e), λ e. true-is-not-false e)
-when-none r false = (λ e. refl, λ e. refl)
-
--- the first of two entries is not given
-alone : (o : Option Refusal) → (firstOf (o ∷ []) ≡ none) ↔ (o ≡ none)
-alone none = Iff·rfl
-alone (some r) = Iff·rfl
-
--- one test after the refusals of another kind
-last : (o : Option Refusal) (r : Refusal) (b : Bool) → (o ≡ some r → ⊥)
-    → (firstOf (o ∷ (r when b) ∷ []) ≡ some r) ↔ ((o ≡ none) × (b ≡ true))
-last o r b n = let x = in-turn r b (o ∷ []) [] (n, tt) tt in simp alone at x
-
--- two tests after the table's refusals
-module _ (w : List ℕ) (r s : Refusal) (a b : Bool) (no-r : TableSays w (some r) → ⊥) (no-s : TableSays w (some s) → ⊥) (apart : numberOf r ≡ numberOf s → ⊥) where
-  early : (q : Refusal) → (numberOf r ≡ numberOf q → ⊥) → (numberOf s ≡ numberOf q → ⊥)
-      → (firstOf (tableRefusal w ∷ (r when a) ∷ (s when b) ∷ []) ≡ some q) ↔ (tableRefusal w ≡ some q)
-  early q m n = at-once (tableRefusal w) ((r when a) ∷ (s when b) ∷ []) q (other r q a m, (other s q b n, tt))
-
-  second : (firstOf (tableRefusal w ∷ (r when a) ∷ (s when b) ∷ []) ≡ some r) ↔ ((tableRefusal w ≡ none) × (a ≡ true))
-  second =
-      let x = in-turn r a (tableRefusal w ∷ []) ((s when b) ∷ []) (not-table w r no-r, tt) (other s r b (λ e. apart (sym e)), tt) in
-      simp alone at x
-
-  third : (firstOf (tableRefusal w ∷ (r when a) ∷ (s when b) ∷ []) ≡ some s) ↔ ((tableRefusal w ≡ none) × (a ≡ false) × (b ≡ true))
-  third =
-      let x = in-turn s b (tableRefusal w ∷ (r when a) ∷ []) [] (not-table w s no-s, (other r s a apart, tt)) tt in
-      let y = simp (none-given (tableRefusal w) ((r when a) ∷ []), alone, when-none) at x in
-      (λ e. let z = y .0 e in (z .0 .0, z .0 .1, z .1), λ z. y .1 ((z .0, z .1), z .2))
-
--- Z is 0 or above 100,000
-abbrev pub EndOut : ℕ → Type 0
-EndOut z = (z ≡ 0) ⊎ (100000 < z)
-
--- Z is 1 to 100,000
-abbrev pub EndIn : ℕ → Type 0
-EndIn z = (1 ≤ z) × (z ≤ 100000)
-
-end-out : (z : ℕ) → (eqb z 0 || ltb endMost z ≡ true) ↔ EndOut z
-end-out z = go (eqb z 0) refl
+-- no other number is given
+pub table-number : (w : List ℕ) (r : Refusal) → tableRefusal w ≡ some r → numberOf r ≤ 4
+table-number w r e = go r (table-says w (some r) .0 e)
   where
-    go : (b : Bool) → eqb z 0 ≡ b → (b || ltb endMost z ≡ true) ↔ EndOut z
-    go true e = (λ h. inl (eqb-true z 0 e), λ x. refl)
-    go false e = (λ h. inr (ltb-true _ _ h), λ x. elim x [ inl h ↦ absurd (eqb-false z 0 e h) | inr h ↦ lt-ltb _ _ h ])
-
-end-in : (z : ℕ) → (eqb z 0 || ltb endMost z ≡ false) ↔ EndIn z
-end-in z = go (eqb z 0) refl
-  where
-    go : (b : Bool) → eqb z 0 ≡ b → (b || ltb endMost z ≡ false) ↔ EndIn z
-    go true e = let n = eqb-true z 0 e in (λ h. true-is-not-false h, λ x. absurd (omega arith))
-    go false e = let n = eqb-false z 0 e in (λ h. (omega arith, ltb-false _ _ h), λ x. le-ltb _ _ (x .1))
-
--- a negated test, read both ways
-not-is : (b : Bool) → (not b ≡ true) ↔ (b ≡ false)
-not-is true = (λ e. sym e, λ e. sym e)
-not-is false = (λ e. refl, λ e. refl)
-
-not-isn't : (b : Bool) → (not b ≡ false) ↔ (b ≡ true)
-not-isn't true = (λ e. refl, λ e. refl)
-not-isn't false = (λ e. sym e, λ e. sym e)
-
--- a set stops at a line, or is read
-line-stop : (x : Lines) (l : ℕ) → (lineRefusal x ≡ some (BadLine l)) ↔ (x ≡ stop l)
-line-stop (took ws rest) l = (λ e. given-or-not e, λ e. let z : _≡_ {A = ℕ} 0 1 = cc in absurd (omega arith))
-line-stop (stop m) l = (λ e. cc, λ e. cc)
-
-not-line : (x : Lines) → lineRefusal x ≡ some TooShort → ⊥
-not-line (took ws rest) e = given-or-not e
-not-line (stop m) e = let z : _≡_ {A = ℕ} 0 1 = cc in omega arith
-
--- THE SCHEDULE: 1 to 4 exactly when the table is refused so; 5 exactly when it is not, and Z is 0 or above 100,000;
--- 6 exactly when neither is refused, and the buffer is shorter than the rows
-module _ (table : List ℕ) (z : ℕ) (out : List ℕ) where
-  abbrev few-rows : Bool
-  few-rows = ltb (length out) (4 * length (scheduleRows table z))
-
-  pub schedule-4 : (r : Refusal) → numberOf r ≤ 4 → (scheduleRefusal table z out ≡ some r) ↔ (tableRefusal table ≡ some r)
-  unfolding scheduleRefusal
-  schedule-4 r h = early table BadEnd TooShort (eqb z 0 || ltb endMost z) few-rows (λ x. x) (λ x. x) (λ e. omega arith) r (omega arith) (omega arith)
-
-  pub schedule-5 : (scheduleRefusal table z out ≡ some BadEnd) ↔ ((tableRefusal table ≡ none) × EndOut z)
-  unfolding scheduleRefusal
-  schedule-5 = simp (← end-out) (second table BadEnd TooShort (eqb z 0 || ltb endMost z) few-rows (λ x. x) (λ x. x) (λ e. omega arith))
-
-  pub schedule-6 : (scheduleRefusal table z out ≡ some TooShort)
-      ↔ ((tableRefusal table ≡ none) × EndIn z × (length out < 4 * length (scheduleRows table z)))
-  unfolding scheduleRefusal
-  schedule-6 =
-      simp (← end-in, ← test-lt) (third table BadEnd TooShort (eqb z 0 || ltb endMost z) few-rows (λ x. x) (λ x. x) (λ e. omega arith))
-
--- THE PATTERN: 1 to 4 exactly when the table is refused so; 8 exactly when it is not, and the verdict isn't "misses";
--- 6 exactly when neither is refused, and the buffer is shorter than the rows
-module _ (table out : List ℕ) where
-  abbrev its-misses : Bool
-  its-misses = isMisses (verdict (tasksOf table))
-
-  abbrev its-few : Bool
-  its-few = ltb (length out) (4 * length (patternRows table))
-
-  pub pattern-4 : (r : Refusal) → numberOf r ≤ 4 → (patternRefusal table out ≡ some r) ↔ (tableRefusal table ≡ some r)
-  unfolding patternRefusal
-  pattern-4 r h = early table NotMisses TooShort (not its-misses) its-few (λ x. x) (λ x. x) (λ e. omega arith) r (omega arith) (omega arith)
-
-  pub pattern-8 : (patternRefusal table out ≡ some NotMisses)
-      ↔ ((tableRefusal table ≡ none) × (isMisses (verdict (tasksOf table)) ≡ false))
-  unfolding patternRefusal
-  pattern-8 = simp (← (not-is its-misses)) (second table NotMisses TooShort (not its-misses) its-few (λ x. x) (λ x. x) (λ e. omega arith))
-
-  pub pattern-6 : (patternRefusal table out ≡ some TooShort)
-      ↔ ((tableRefusal table ≡ none) × (isMisses (verdict (tasksOf table)) ≡ true) × (length out < 4 * length (patternRows table)))
-  unfolding patternRefusal
-  pattern-6 =
-      simp (← (not-isn't its-misses), ← test-lt)
-      (third table NotMisses TooShort (not its-misses) its-few (λ x. x) (λ x. x) (λ e. omega arith))
-
--- THE WRITER: 1 to 4 exactly when the table is refused so; 6 exactly when it is not, and the buffer is shorter than the text
-module _ (table out : List ℕ) where
-  abbrev few-bytes : Bool
-  few-bytes = ltb (length out) (length (writeSet table))
-
-  pub write-4 : (r : Refusal) → numberOf r ≤ 4 → (writeRefusal table out ≡ some r) ↔ (tableRefusal table ≡ some r)
-  unfolding writeRefusal
-  write-4 r h = at-once (tableRefusal table) ((TooShort when few-bytes) ∷ []) r (other TooShort r few-bytes (omega arith), tt)
-
-  pub write-6 : (writeRefusal table out ≡ some TooShort) ↔ ((tableRefusal table ≡ none) × (length out < length (writeSet table)))
-  unfolding writeRefusal
-  write-6 = simp (← test-lt) (last (tableRefusal table) TooShort few-bytes (not-table table TooShort (λ x. x)))
-
--- THE READER: 7 exactly when the set stops at that line; 6 exactly when it stops at none, and the table is shorter than the words
-module _ (text table : List ℕ) where
-  abbrev few-words : Bool
-  few-words = ltb (length table) (length (wordsRead (readSet text)))
-
-  pub read-7 : (l : ℕ) → (readRefusal text table ≡ some (BadLine l)) ↔ (readSet text ≡ stop l)
-  unfolding readRefusal
-  read-7 l =
-      simp (← line-stop)
-      (at-once (lineRefusal (readSet text)) ((TooShort when few-words) ∷ []) (BadLine l) (other TooShort (BadLine l) few-words (λ e. omega arith), tt))
-
-  pub read-6 : (readRefusal text table ≡ some TooShort)
-      ↔ ((lineRefusal (readSet text) ≡ none) × (length table < length (wordsRead (readSet text))))
-  unfolding readRefusal
-  read-6 = simp (← test-lt) (last (lineRefusal (readSet text)) TooShort few-words (not-line (readSet text)))
+    go : (r : Refusal) → TableSays w (some r) → numberOf r ≤ 4
+    go NoWord x = omega arith
+    go NotFours x = omega arith
+    go TooManyWords x = omega arith
+    go (OutOfRange i) x = omega arith
+    go BadEnd x = absurd x
+    go TooShort x = absurd x
+    go (BadLine l) x = absurd x
+    go NotMisses x = absurd x

@@ -23,7 +23,6 @@ rest-here ts k τ us R = rw add-zero at (R .at 0 (omega arith))
 pub rest-next : (ts : List Task) (k : ℕ) (τ : Task) (us : List Task) → Rest ts k (τ ∷ us) → Rest ts (suc k) us
 unfolding taskAt
 rest-next ts k τ us R =
-    let e = R .ends in
     record {
       ends = omega arith;
       at = λ i h. let s : k + suc i ≡ suc k + i = omega arith in subst (λ (n : ℕ). taskAt us i ≡ taskAt ts n) s (R .at (suc i) (omega arith));

@@ -69,7 +69,6 @@ legal-from plan ts sound k (τ ∷ us) R =
   where
     own : Legal ts (trainOf plan k τ)
     own =
-        let e = R .ends in
         subst (λ (x : Task). Legal ts (train (plan k τ .count) 0 (plan k τ .first) k x)) (sym (rest-here ts k τ us R))
         (train-legal ts sound (plan k τ .count) 0 (plan k τ .first) k (omega arith))
 

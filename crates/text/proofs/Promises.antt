@@ -20,7 +20,7 @@ use Rattle.rules.proofs.Tables.{valid-of, not-given}
 use Rattle.text.specs.Promises.{FineIsWritten, WrittenIsRead, ReadIsText, ReadIsWritten, ReadsOne, ReturnsOne, WritesOne}
 use Rattle.text.proofs.Sets.{whole}
 use Rattle.text.proofs.Writing.{written}
-use Rattle.text.proofs.Round.{small-of, set-there, set-back}
+use Rattle.rules.proofs.SetTrips.{small-of, set-there, set-back}
 use Rattle.text.proofs.Callers.{took-set}
 
 pub reads-one : ReadsOne

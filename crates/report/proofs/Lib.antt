@@ -1,0 +1,2 @@
+-- Laws of the report: how its parts are put one after the other.
+pub mod Parts

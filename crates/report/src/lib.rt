@@ -1,0 +1,105 @@
+// The report of one set: the lines that the program prints for the first set of a text.
+ghost use mathlib.Core.Path.{_≡_};
+ghost use Prim.Native.Nat.{_+_, _≤_};
+ghost use lib.ListN.{length};
+ghost use Rattle.rules.specs.Text.{bytes, line};
+ghost use Rattle.rules.specs.Report.{blockerWord, verdictLines, carriedLine, refusalLines};
+ghost use Rattle.rules.specs.Calls.{Reports};
+ghost use Rattle.lines.specs.Line.{Puts};
+ghost use Rattle.report.specs.First.{answerLines, linesOf, Judges};
+use rules::Blocker;
+use rules::ReadAnswer;
+use rules::Refusal;
+use rules::ReportAnswer;
+use rules::Verdict;
+use rules::VerdictAnswer;
+
+// What is found of the first set: the verdict or the refusal, and how many bytes are left to read.
+pub struct First {
+    pub answer: VerdictAnswer,
+    pub left: usize,
+}
+
+// The blocker's line is put at a place.
+fn put_blocker(out: &mut [u8], at: usize, blocker: Blocker) -> usize
+    requires { ⌜ at + length (line (bytes "blocker=") (blockerWord blocker)) ≤ length (now out) ⌝ }
+    ensures { λ r. ⌜ Puts (now (out .entry)) at (line (bytes "blocker=") (blockerWord blocker)) r (now (out .exit)) ⌝ }
+{
+    match blocker {
+        Blocker::Task(k) => lines::put_line(out, at, b"blocker=", k),
+        Blocker::Nobody => lines::put_word_line(out, at, b"blocker=", b"none"),
+    }
+}
+
+// The lines of a "meets" are put at a place.
+fn put_meets(out: &mut [u8], at: usize, span: u32) -> usize
+    requires { ⌜ at + length (verdictLines (Verdict.Meets span)) ≤ length (now out) ⌝ }
+    ensures { λ r. ⌜ Puts (now (out .entry)) at (verdictLines (Verdict.Meets span)) r (now (out .exit)) ⌝ }
+{
+    let a = lines::put_word_line(out, at, b"verdict=", b"meets");
+    lines::put_line(out, a, b"span=", span)
+}
+
+// The lines of a "misses" are put at a place.
+fn put_misses(out: &mut [u8], at: usize, least: u32, blocker: Blocker) -> usize
+    requires { ⌜ at + length (verdictLines (Verdict.Misses least blocker)) ≤ length (now out) ⌝ }
+    ensures { λ r. ⌜ Puts (now (out .entry)) at (verdictLines (Verdict.Misses least blocker)) r (now (out .exit)) ⌝ }
+{
+    let a = lines::put_word_line(out, at, b"verdict=", b"misses");
+    let b = lines::put_line(out, a, b"length=", least);
+    put_blocker(out, b, blocker)
+}
+
+// A verdict's lines are put at a place.
+fn put_verdict(out: &mut [u8], at: usize, verdict: Verdict) -> usize
+    requires { ⌜ at + length (verdictLines verdict) ≤ length (now out) ⌝ }
+    ensures { λ r. ⌜ Puts (now (out .entry)) at (verdictLines verdict) r (now (out .exit)) ⌝ }
+{
+    match verdict {
+        Verdict::Meets(span) => put_meets(out, at, span),
+        Verdict::Misses(least, blocker) => put_misses(out, at, least, blocker),
+        Verdict::TooFar => lines::put_word_line(out, at, b"verdict=", b"toofar"),
+    }
+}
+
+// The line of what a refusal carries is put at a place.
+fn put_carried(out: &mut [u8], at: usize, refusal: Refusal) -> usize
+    requires { ⌜ at + length (carriedLine refusal) ≤ length (now out) ⌝ }
+    ensures { λ r. ⌜ Puts (now (out .entry)) at (carriedLine refusal) r (now (out .exit)) ⌝ }
+{
+    match refusal {
+        Refusal::OutOfRange(i) => lines::put_line(out, at, b"word=", i),
+        Refusal::BadLine(l) => lines::put_line(out, at, b"line=", l),
+        _ => at,
+    }
+}
+
+// A refusal's lines are put at a place.
+fn put_refusal(out: &mut [u8], at: usize, refusal: Refusal) -> usize
+    requires { ⌜ at + length (refusalLines refusal) ≤ length (now out) ⌝ }
+    ensures { λ r. ⌜ Puts (now (out .entry)) at (refusalLines refusal) r (now (out .exit)) ⌝ }
+{
+    let number = numbers::refusal_number(refusal);
+    let a = lines::put_line(out, at, b"refused=", number);
+    put_carried(out, a, refusal)
+}
+
+// An answer's lines are put at a place.
+fn put_answer(out: &mut [u8], at: usize, answer: VerdictAnswer) -> usize
+    requires { ⌜ at + length (answerLines answer) ≤ length (now out) ⌝ }
+    ensures { λ r. ⌜ Puts (now (out .entry)) at (answerLines answer) r (now (out .exit)) ⌝ }
+{
+    match answer {
+        VerdictAnswer::Judged(verdict) => put_verdict(out, at, verdict),
+        VerdictAnswer::Refused(refusal) => put_refusal(out, at, refusal),
+    }
+}
+
+// The lines of a set with an answer are put at the start.
+fn put_set(out: &mut [u8], number: u32, answer: VerdictAnswer) -> usize
+    requires { ⌜ length (linesOf number answer) ≤ length (now out) ⌝ }
+    ensures { λ r. ⌜ Puts (now (out .entry)) 0 (linesOf number answer) r (now (out .exit)) ⌝ }
+{
+    let a = lines::put_line(out, 0, b"set=", number);
+    put_answer(out, a, answer)
+}

@@ -1,0 +1,111 @@
+use mathlib.Core.Path.{_≡_, refl, sym, _∙_}
+use Prim.Native.Nat.{_-_, _^_, _≤_, _<_}
+use native.Mathlib.Omega.{arith}
+use borrow.Author.Tests.{not-true, not-false}
+use Rattle.rules.specs.Text.{moreDigits}
+use Rattle.lines.proofs.Reading.{part, more-none, more-other, more-step, more-end, room, room-step}
+use borrow.Author.Needs.{needs}
+use Rattle.lines.proofs.more_digits.Statement.{statement}
+use Rattle.lines.proofs.more_digits.Tie as tie
+
+abbrev Inv-loop : tie.InvT-loop
+Inv-loop s first rest₀ v₀ t₀ left₀ rest v t left = (left ≤ 4) × ((v < 10 ^ (5 - left)) × (moreDigits left v t ≡ moreDigits 4 first s))
+
+abbrev μ-loop : tie.MeasureT-loop
+μ-loop s first rest₀ v₀ t₀ left₀ rest v t left = left
+
+loop-holds : tie.Need-loop-holds Inv-loop μ-loop
+loop-holds c = (omega arith, (omega arith, refl))
+
+returns : tie.Need-returns Inv-loop μ-loop
+returns c =
+    let w = c .before .before in
+    sym (more-none _ _ (w .loop .left) (c .if1 .taken)) ∙ w .loop .inv .1 .1
+
+shared-slice-read-is-digit : tie.Need-shared-slice-read-is-digit Inv-loop μ-loop
+shared-slice-read-is-digit c = search needs
+
+is-digit-requires : tie.Need-is-digit-requires Inv-loop μ-loop
+is-digit-requires c κs = search needs
+
+returns-2 : tie.Need-returns-2 Inv-loop μ-loop
+returns-2 c =
+    let w = c .before .before .before .before .before in
+    let f = c .before .is-digit in
+    sym (more-other _ (w .loop .t .now) (omega arith) (w .loop .left) (sym (f .ensures) ∙ not-true (f .result) (c .if2 .taken))) ∙ w .loop .inv .1 .1
+
+mul-v : tie.Need-mul-v Inv-loop μ-loop
+mul-v c =
+    let w = c .before .before .before .before .before in
+    omega (arith, room (w .loop .left) (w .loop .v) (w .loop .inv .0) (w .loop .inv .1 .0))
+
+shared-slice-read-digit-value : tie.Need-shared-slice-read-digit-value Inv-loop μ-loop
+shared-slice-read-digit-value c = search needs
+
+digit-value-requires : tie.Need-digit-value-requires Inv-loop μ-loop
+digit-value-requires c κs =
+    let f = c .before .before .is-digit in
+    sym (f .ensures) ∙ not-false (f .result) (c .before .if2 .left)
+
+add-v : tie.Need-add-v Inv-loop μ-loop
+add-v c =
+    let w = c .before .before .before .before .before .before .before in
+    omega (arith, room (w .loop .left) (w .loop .v) (w .loop .inv .0) (w .loop .inv .1 .0))
+
+sub-t : tie.Need-sub-t Inv-loop μ-loop
+sub-t c = search needs
+
+part-t-start : tie.Need-part-t-start Inv-loop μ-loop
+part-t-start c = search needs
+
+part-t-end : tie.Need-part-t-end Inv-loop μ-loop
+part-t-end c = search needs
+
+sub-left : tie.Need-sub-left Inv-loop μ-loop
+sub-left c = search needs
+
+loop-less : tie.Need-loop-less Inv-loop μ-loop
+loop-less c = search needs
+
+loop-again : tie.Need-loop-again Inv-loop μ-loop
+loop-again c =
+    let d = c .before .before .before in
+    let w = d .before .before .before .before .before in
+    let t = w .loop .t .now in
+    let f = d .before .is-digit in
+    let v = c .before .digit-value .ensures in (
+      omega arith,
+      (
+        room-step (w .loop .left) (w .loop .v) _ (omega arith) (w .loop .inv .0) (v .1) (w .loop .inv .1 .0),
+        rw (part 1 t, v .0) (sym (more-step (w .loop .v) t (omega arith) (w .loop .left) (omega arith) (sym (f .ensures) ∙ not-false (f .result) (d .if2 .left))) ∙ w .loop .inv .1 .1),
+      ),
+    )
+
+returns-3 : tie.Need-returns-3 Inv-loop μ-loop
+returns-3 c =
+    let w = c .before in
+    let e : w .loop .left ≡ 0 = omega arith in
+    sym (more-end _ _ (w .loop .left) e) ∙ w .loop .inv .1 .1
+
+pub more-digits-spec : {M : Type 1} → statement M
+more-digits-spec =
+    tie.close
+    (tie.spec
+    Inv-loop
+    μ-loop
+    loop-holds
+    returns
+    shared-slice-read-is-digit
+    is-digit-requires
+    returns-2
+    mul-v
+    shared-slice-read-digit-value
+    digit-value-requires
+    add-v
+    sub-t
+    part-t-start
+    part-t-end
+    sub-left
+    loop-less
+    loop-again
+    returns-3)

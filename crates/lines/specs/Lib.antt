@@ -1,0 +1,2 @@
+-- What the calls on one line promise.
+pub mod Line

@@ -1,0 +1,196 @@
+// One line, read and written: a key, a value, byte 10. What is left to read goes on through a lent slice.
+ghost use mathlib.Core.Path.{_≡_};
+ghost use Prim.Native.Nat.{_+_, _-_, _≤_, _<_};
+ghost use mathlib.Core.List.{[], _∷_};
+ghost use mathlib.Core.Bool.{true};
+ghost use lib.ListN.{length};
+ghost use Rattle.rules.specs.Text.{got, digit, moreDigits, readNumber, readLine, digits, line};
+ghost use Rattle.lines.specs.Line.{Skips, Finds, Puts};
+
+// A number, or that none stands there as due.
+pub enum Number {
+    Value(u32),
+    Wrong,
+}
+
+// Whether s begins with a key; the bytes after it go to rest.
+pub fn skip_key<'a>(s: &'a [u8], key: &[u8], rest: &mut &'a [u8]) -> bool
+    ensures { λ r. ⌜ Skips (now (key .entry)) (now (s .entry)) (now (now (rest .entry))) r (now (now (rest .exit))) ⌝ }
+{
+    let mut t = s;
+    let mut i = 0;
+    while i < key.len() {
+        if t.len() == 0 {
+            return false;
+        }
+        if t[0] != key[i] {
+            return false;
+        }
+        t = &t[1..];
+        i += 1;
+    }
+    *rest = t;
+    true
+}
+
+// Whether a byte is a decimal digit.
+fn is_digit(b: u8) -> bool
+    ensures { λ r. ⌜ r ≡ digit b ⌝ }
+{
+    if b < 48 {
+        return false;
+    }
+    if b > 57 {
+        return false;
+    }
+    true
+}
+
+// The number that a digit stands for.
+fn digit_value(b: u8) -> u32
+    requires { ⌜ digit b ≡ true ⌝ }
+    ensures { λ r. ⌜ (r ≡ b - 48) × (r < 10) ⌝ }
+{
+    (b - 48) as u32
+}
+
+// At most four digits more, after the first.
+fn more_digits<'a>(s: &'a [u8], first: u32, rest: &mut &'a [u8]) -> u32
+    requires { ⌜ first < 10 ⌝ }
+    ensures { λ r. ⌜ got r (now (now (rest .exit))) ≡ moreDigits 4 first (now (s .entry)) ⌝ }
+{
+    let mut v = first;
+    let mut t = s;
+    let mut left: u32 = 4;
+    while left > 0 {
+        if t.len() == 0 {
+            *rest = t;
+            return v;
+        }
+        let more = is_digit(t[0]);
+        if !more {
+            *rest = t;
+            return v;
+        }
+        v = v * 10 + digit_value(t[0]);
+        t = &t[1..];
+        left -= 1;
+    }
+    *rest = t;
+    v
+}
+
+// The number at the start of s; the bytes after it go to rest.
+pub fn read_number<'a>(s: &'a [u8], rest: &mut &'a [u8]) -> Number
+    ensures { λ r. ⌜ Finds (readNumber (now (s .entry))) (now (now (rest .entry))) r (now (now (rest .exit))) ⌝ }
+{
+    if s.len() == 0 {
+        return Number::Wrong;
+    }
+    let some = is_digit(s[0]);
+    if !some {
+        return Number::Wrong;
+    }
+    let first = digit_value(s[0]);
+    if first == 0 {
+        *rest = &s[1..];
+        return Number::Value(0);
+    }
+    let v = more_digits(&s[1..], first, rest);
+    Number::Value(v)
+}
+
+// The number of a line with a key; the bytes after the line go to rest.
+pub fn read_line<'a>(s: &'a [u8], key: &[u8], rest: &mut &'a [u8]) -> Number
+    ensures { λ r. ⌜ Finds (readLine (now (key .entry)) (now (s .entry))) (now (now (rest .entry))) r (now (now (rest .exit))) ⌝ }
+{
+    let mut a = s;
+    let is_key = skip_key(s, key, &mut a);
+    if !is_key {
+        return Number::Wrong;
+    }
+    let mut b = a;
+    let n = read_number(a, &mut b);
+    let Number::Value(v) = n else {
+        return Number::Wrong;
+    };
+    if b.len() == 0 {
+        return Number::Wrong;
+    }
+    if b[0] != 10 {
+        return Number::Wrong;
+    }
+    *rest = &b[1..];
+    Number::Value(v)
+}
+
+// How many digits a number has.
+pub fn width(n: u32) -> usize
+    ensures { λ r. ⌜ (r ≡ length (digits n)) × (r ≤ 10) ⌝ }
+{
+    let mut v = n;
+    let mut w: usize = 1;
+    while v > 9 {
+        v = v / 10;
+        w += 1;
+    }
+    w
+}
+
+// A byte is put at a place.
+pub fn put_byte(out: &mut [u8], at: usize, b: u8) -> usize
+    requires { ⌜ at < length (now out) ⌝ }
+    ensures { λ r. ⌜ Puts (now (out .entry)) at (b ∷ []) r (now (out .exit)) ⌝ }
+{
+    out[at] = b;
+    at + 1
+}
+
+// Bytes are put at a place.
+pub fn put_bytes(out: &mut [u8], at: usize, bytes: &[u8]) -> usize
+    requires { ⌜ at + length (now bytes) ≤ length (now out) ⌝ }
+    ensures { λ r. ⌜ Puts (now (out .entry)) at (now (bytes .entry)) r (now (out .exit)) ⌝ }
+{
+    let mut i = 0;
+    while i < bytes.len() {
+        out[at + i] = bytes[i];
+        i += 1;
+    }
+    at + i
+}
+
+// A number's digits are put at a place, the last one first.
+pub fn put_number(out: &mut [u8], at: usize, n: u32) -> usize
+    requires { ⌜ at + length (digits n) ≤ length (now out) ⌝ }
+    ensures { λ r. ⌜ Puts (now (out .entry)) at (digits n) r (now (out .exit)) ⌝ }
+{
+    let w = width(n);
+    let mut v = n;
+    let mut i = w;
+    while i > 0 {
+        i -= 1;
+        out[at + i] = 48 + (v % 10) as u8;
+        v = v / 10;
+    }
+    at + w
+}
+
+// A line with a number is put at a place.
+pub fn put_line(out: &mut [u8], at: usize, key: &[u8], n: u32) -> usize
+    requires { ⌜ at + length (line (now key) (digits n)) ≤ length (now out) ⌝ }
+    ensures { λ r. ⌜ Puts (now (out .entry)) at (line (now (key .entry)) (digits n)) r (now (out .exit)) ⌝ }
+{
+    let a = put_bytes(out, at, key);
+    let b = put_number(out, a, n);
+    put_byte(out, b, 10)
+}
+
+// A line with a value in plain letters is put at a place.
+pub fn put_word_line(out: &mut [u8], at: usize, key: &[u8], value: &[u8]) -> usize
+    requires { ⌜ at + length (line (now key) (now value)) ≤ length (now out) ⌝ }
+    ensures { λ r. ⌜ Puts (now (out .entry)) at (line (now (key .entry)) (now (value .entry))) r (now (out .exit)) ⌝ }
+{
+    let a = put_bytes(out, at, key);
+    let b = put_bytes(out, a, value);
+    put_byte(out, b, 10)
+}

@@ -1,4 +1,9 @@
 -- Laws about the definitions.
+pub mod Members
+pub mod Dispatcher
+pub mod Blockers
+pub mod LateJob
+pub mod Refused
 pub mod Tests
 pub mod Tables
 pub mod Taken
@@ -7,5 +12,10 @@ pub mod Picked
 pub mod Runs
 pub mod Rest
 pub mod Trains
+pub mod Count
+pub mod Meets
+pub mod Late
+pub mod Misses
+pub mod Least
 pub mod Search
 pub mod Verdicts

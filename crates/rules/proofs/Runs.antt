@@ -8,7 +8,7 @@ use lib.ListN.{length}
 use Rattle.rules.specs.Task.{Task, AllSound}
 use Rattle.rules.specs.Dispatch.{Job, Row, without, ready, pick, rows, dispatch}
 use Rattle.rules.specs.Legal.{Legal}
-use Rattle.rules.proofs.Taken.{Taken, taken-length, taken-cases, Distinct, taken-distinct, without-taken}
+use Rattle.rules.proofs.Taken.{Taken, taken-mem, taken-length, taken-cases, Distinct, taken-distinct, without-taken}
 use Rattle.rules.proofs.Legal.{legal-distinct}
 use Rattle.rules.proofs.Picked.{earliest-some, Picked, Pick, nobody, somebody, picks}
 
@@ -55,3 +55,9 @@ run-covers done i m = absurd (List·Memᴰ·not-nil m)
 run-covers (step {j = j} s e P k r) i m =
     taken-cases k i m _ (λ q. (record { job = j; start = s }, List·Memᴰ·head refl, sym q))
     (λ n. let x = run-covers r i n in (x .0, List·Memᴰ·tail (x .1), x .2))
+
+-- every row is of one of the jobs
+pub run-jobs : {t : ℕ} {js : List Job} {ws : List Row} → Run t js ws → (w : Row) → List·Memᴰ w ws → List·Memᴰ (w .job) js
+run-jobs done w m = absurd (List·Memᴰ·not-nil m)
+run-jobs (step s e P k r) w (List·Memᴰ·head q) = rw q (P .mem)
+run-jobs (step s e P k r) w (List·Memᴰ·tail m) = taken-mem k (w .job) (run-jobs r w m)

@@ -3,7 +3,7 @@ use mathlib.Core.Path.{_≡_, refl, sym, ap, _∙_}
 use Prim.Native.Nat.{ℕ, zero, suc, _+_, _≤_, _<_}
 use native.Mathlib.Omega.{arith}
 use mathlib.Core.Bool.{Bool, true, false}
-use mathlib.Core.Option.{Option, none, some}
+use mathlib.Core.Option.{none, some}
 use lib.Dec.{eqb}
 use borrow.Author.Tests.{eqb-true, eqb-false}
 use Rattle.rules.specs.Choice.{if_then_else_, least}
@@ -34,7 +34,7 @@ module _ (p : ℕ → Bool) where
   none-more k e q later y a b = at-or-on k y a (λ i. rw i q) (λ i. later y i b)
 
   -- and after those before it
-  pub none-until : (k e : ℕ) → NonePasses p k e → p e ≡ false → NonePasses p k (suc e)
+  pub none-until : (k e : ℕ) → NonePasses p k e → p e ≡ false → NonePasses p k (e + 1)
   none-until k e before q y a b = at-or-on y e (omega arith) (λ i. rw (← i) q) (λ i. before y a i)
 
   here : (n k : ℕ) → p k ≡ true → least p (suc n) k ≡ some k

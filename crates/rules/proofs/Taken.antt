@@ -8,7 +8,7 @@ use lib.Dec.{eqb}
 use lib.ListN.{length}
 use Rattle.rules.specs.Choice.{if_then_else_}
 use Rattle.rules.specs.Dispatch.{Job, same, without}
-use Rattle.rules.proofs.Tests.{both-true, both-false, true-is-not-false}
+use Rattle.rules.proofs.Tests.{both, both-true, both-false, true-is-not-false}
 
 -- what holds of the head and of every job of the tail holds of every job
 pub mem-cons : (P : Job → Type 0) {j : Job} {js : List Job} → P j → ((i : Job) → List·Memᴰ i js → P i)
@@ -56,6 +56,10 @@ pub same-false : (i j : Job) → same i j ≡ false → i .task ≡ j .task → 
 unfolding same
 same-false i j e p q = both-false _ _ e (eq-eqb _ _ p) (eq-eqb _ _ q)
 
+pub same-self : (j : Job) → same j j ≡ true
+unfolding same
+same-self j = both _ _ (eq-eqb (j .task) (j .task) refl) (eq-eqb (j .number) (j .number) refl)
+
 -- any two places of the list have jobs that differ in task or number
 abbrev pub Distinct : List Job → Type 0
 Distinct [] = Unit {0}
@@ -64,6 +68,19 @@ Distinct (j ∷ js) = ((i : Job) → List·Memᴰ i js → same i j ≡ false) �
 pub taken-distinct : {j : Job} {js ks : List Job} → Taken j js ks → Distinct js → Distinct ks
 taken-distinct (now e) d = d .1
 taken-distinct (later t) d = (λ i m. d .0 i (taken-mem t i m), taken-distinct t (d .1))
+
+-- no job that is left is the one taken
+pub differ-back : (i j : Job) → same i j ≡ false → same j i ≡ false
+differ-back i j e = go (same j i) refl
+  where
+    go : (b : Bool) → same j i ≡ b → b ≡ false
+    go false q = refl
+    go true q = absurd (same-false i j e (sym (same-true j i q .0)) (sym (same-true j i q .1)))
+
+pub taken-differ : {j : Job} {js ks : List Job} → Taken j js ks → Distinct js → (i : Job) → List·Memᴰ i ks → same j i ≡ false
+taken-differ (now e) d i m = rw e (differ-back _ _ (d .0 i m))
+taken-differ (later t) d i (List·Memᴰ·head e) = rw e (d .0 _ (taken-in t))
+taken-differ (later t) d i (List·Memᴰ·tail m) = taken-differ t (d .1) i m
 
 -- of such a list `without` takes out just the one job
 pub without-taken : (js : List Job) → Distinct js → (j : Job) → List·Memᴰ j js → Taken j js (without j js)

@@ -1,0 +1,4 @@
+-- Laws that the proofs share.
+pub mod Tasks
+pub mod Terms
+pub mod Blockers

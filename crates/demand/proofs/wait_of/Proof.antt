@@ -1,0 +1,25 @@
+use mathlib.Core.Path.{sym, ap, _∙_}
+use Prim.Native.Nat.{ℕ, _-_}
+use native.Mathlib.Omega.{arith}
+use borrow.Author.Needs.{needs}
+use Rattle.rules.proofs.Verdicts.{wait-in, wait-out}
+use Rattle.demand.specs.Parts.{taskOf}
+use Rattle.demand.proofs.wait_of.Statement.{statement}
+use Rattle.demand.proofs.wait_of.Tie as tie
+
+wide-requires : tie.Need-wide-requires
+wide-requires c κs = search needs
+
+sub-result : tie.Need-sub-result
+sub-result c = search needs
+
+returns : tie.Need-returns
+returns c =
+    let a = c .before .before .before .args in
+    (ap (λ (u : ℕ). u - 1) (c .wide .ensures .0) ∙ sym (wait-in _ (taskOf (a .task)) (c .before .if1 .taken)), omega arith)
+
+returns-2 : tie.Need-returns-2
+returns-2 c = (sym (wait-out _ (taskOf (c .before .before .args .task)) (c .if1 .left)), omega arith)
+
+pub wait-of-spec : {M : Type 1} → statement M
+wait-of-spec = tie.close (tie.spec wide-requires sub-result returns returns-2)

@@ -1,0 +1,39 @@
+use mathlib.Core.Path.{_≡_, refl}
+use Prim.Native.Nat.{_+_, _-_, _≤_}
+use native.Mathlib.Omega.{arith}
+use Rattle.dispatch.specs.Counters.{Best}
+use Rattle.dispatch.proofs.Walk.{best-none, chosen}
+use Rattle.dispatch.proofs.choose.Statement.{statement}
+use Rattle.dispatch.proofs.choose.Tie as tie
+
+abbrev Inv-loop : tie.InvT-loop
+Inv-loop table first count next m t best₀ i₀ best i = (i ≤ m) × Best table first count next t m i best
+
+abbrev μ-loop : tie.MeasureT-loop
+μ-loop table first count next m t best₀ i₀ best i = i
+
+loop-holds : tie.Need-loop-holds Inv-loop μ-loop
+loop-holds c = (omega arith, best-none _ _ _ _ _ _ _ refl)
+
+sub-i : tie.Need-sub-i Inv-loop μ-loop
+sub-i c = omega arith
+
+consider-requires : tie.Need-consider-requires Inv-loop μ-loop
+consider-requires c κs =
+    let s = c .before .before .before in
+    let e : c .before .loop .i - 1 + 1 ≡ c .before .loop .i = omega arith in
+    (s .pre .0, (omega arith, (s .pre .1 .0, rw e (c .before .loop .inv .1))))
+
+loop-less : tie.Need-loop-less Inv-loop μ-loop
+loop-less c = omega arith
+
+loop-again : tie.Need-loop-again Inv-loop μ-loop
+loop-again c = (omega arith, c .consider .ensures)
+
+returns : tie.Need-returns Inv-loop μ-loop
+returns c = chosen _ _ _ _ _ _ _ _ (c .loop-test .left) (c .before .before .before .pre .1 .1) (c .before .loop .inv .1)
+
+pub choose-spec : {M : Type 1} → statement M
+choose-spec =
+    tie.close
+    (tie.spec Inv-loop μ-loop loop-holds sub-i consider-requires loop-less loop-again returns)

@@ -1,0 +1,3 @@
+-- What the dispatcher promises, and its state.
+pub mod Plan
+pub mod Counters

@@ -1,0 +1,145 @@
+-- The three demands on one page, over the definitions and the calls' contracts of rules/specs.
+use mathlib.Core.Path.{_≡_}
+use mathlib.Core.Logic.{_↔_}
+use Prim.Native.Nat.{ℕ, _+_, _*_, _/_, _≤_, _<_}
+use mathlib.Core.List.{List, [], _∷_, _++_, List·Memᴰ}
+use mathlib.Core.Bool.{Bool, true, false}
+use mathlib.Core.Option.{none}
+use lib.ListN.{length, drop}
+use Rattle.rules.specs.Choice.{if_then_else_}
+use Rattle.rules.specs.Task.{Task, tasksOf, taskAt, AllSound}
+use Rattle.rules.specs.Refusals.{numberOf}
+use Rattle.rules.specs.Table.{tableRefusal}
+use Rattle.rules.specs.Dispatch.{Job, Row, late, same, dispatch, lateJob, rowWords}
+use Rattle.rules.specs.Jobs.{concrete, named}
+use Rattle.rules.specs.Legal.{Legal}
+use Rattle.rules.specs.Demand.{horizon, fails, closes, blocker, verdict}
+use Rattle.rules.specs.Text.{took, readSet, writeSet}
+use Rattle.rules.specs.Answers.{endMost, timing, verdictAnswer, checkNumber}
+use Rattle.rules.specs.Calls.{Reads, Writes, Schedules, Shows, Reports}
+use Rattle.rules.specs.declared.Refusal.{Refusal}
+use Rattle.rules.specs.declared.Blocker.{Blocker}
+use Rattle.rules.specs.declared.Verdict.{Verdict}
+use Rattle.rules.specs.declared.ReadAnswer.{ReadAnswer}
+use Rattle.rules.specs.declared.WriteAnswer.{WriteAnswer}
+use Rattle.rules.specs.declared.ScheduleAnswer.{ScheduleAnswer}
+use Rattle.rules.specs.declared.VerdictAnswer.{VerdictAnswer}
+use Rattle.rules.specs.declared.PatternAnswer.{PatternAnswer}
+use Rattle.rules.specs.declared.ReportAnswer.{ReportAnswer}
+
+-- 1. ANY INPUT ENDS WELL. Any table, any text, any lent buffer gets an answer or a numbered refusal. A refusal changes no lent buffer.
+
+-- a contract leaves exactly one possibility
+pub record One (X : Type 0) (Contract : X → Type 0) : Type 0 where
+  pub outcome : X
+  pub as-due : Contract outcome
+  pub no-other : (x : X) → Contract x → x ≡ outcome
+
+-- for every input each call has exactly one outcome: its answer, what it hands back, and each lent buffer at exit
+pub record EndsWell : Type 0 where
+  pub reading : (text table : List ℕ) → One (ReadAnswer × List ℕ × List ℕ) (λ o. Reads text table (o .0) (o .1) (o .2))
+  pub writing : (table out : List ℕ) → One (WriteAnswer × List ℕ) (λ o. Writes table out (o .0) (o .1))
+  pub scheduling : (table : List ℕ) (z : ℕ) (out : List ℕ) → One (ScheduleAnswer × List ℕ) (λ o. Schedules table z out (o .0) (o .1))
+  pub judging : (table : List ℕ) → One VerdictAnswer (λ o. o ≡ verdictAnswer table)
+  pub showing : (table out : List ℕ) → One (PatternAnswer × List ℕ) (λ o. Shows table out (o .0) (o .1))
+  pub reporting : (number : ℕ) (text out : List ℕ) → One (ReportAnswer × List ℕ) (λ o. Reports number text out (o .0) (o .1))
+  pub checking : (text : List ℕ) → One ℕ (λ o. o ≡ checkNumber text)
+
+-- a refusal has a number from 1 to 8; each lent buffer at exit is what it was; the reader hands the whole text back
+pub record Untouched : Type 0 where
+  pub numbered : (r : Refusal) → (1 ≤ numberOf r) × (numberOf r ≤ 8)
+  pub reading : (text table rest exit : List ℕ) (r : Refusal) → Reads text table (ReadAnswer.Refused r) rest exit → (rest ≡ text) × (exit ≡ table)
+  pub writing : (table out exit : List ℕ) (r : Refusal) → Writes table out (WriteAnswer.Refused r) exit → exit ≡ out
+  pub scheduling : (table out exit : List ℕ) (z : ℕ) (r : Refusal) → Schedules table z out (ScheduleAnswer.Refused r) exit → exit ≡ out
+  pub showing : (table out exit : List ℕ) (r : Refusal) → Shows table out (PatternAnswer.Refused r) exit → exit ≡ out
+  pub reporting : (number : ℕ) (text out exit : List ℕ) (r : Refusal) → Reports number text out (ReportAnswer.Refused r) exit → exit ≡ out
+
+-- 2. THE NUMBERS ARE THE PAPER'S. Rows, late job, verdict and text each equal a definition.
+
+-- a buffer holds a result at its start, and beyond it what it held before
+abbrev pub Holds : List ℕ → List ℕ → List ℕ → Type 0
+Holds exit result out = exit ≡ result ++ drop (length result) out
+
+-- what the calls give where the table is one, Z is in its range, and the result fits
+pub record PaperNumbers : Type 0 where
+  pub schedule : (table out exit : List ℕ) (z : ℕ) (answer : ScheduleAnswer) (rows : List Row) → Schedules table z out answer exit
+      → tableRefusal table ≡ none → 1 ≤ z → z ≤ endMost → rows ≡ dispatch (concrete z (tasksOf table)) → 4 * length rows ≤ length out
+      → (answer ≡ timing (length rows) (lateJob rows)) × Holds exit (rowWords rows) out
+  pub judgement : (table : List ℕ) → tableRefusal table ≡ none → verdictAnswer table ≡ VerdictAnswer.Judged (verdict (tasksOf table))
+  pub pattern : (table out exit : List ℕ) (answer : PatternAnswer) (L : ℕ) (b : Blocker) (rows : List Row) → Shows table out answer exit
+      → tableRefusal table ≡ none → verdict (tasksOf table) ≡ Verdict.Misses L b
+      → rows ≡ dispatch (named L (tasksOf table)) → 4 * length rows ≤ length out
+      → (answer ≡ PatternAnswer.Rows (length rows)) × Holds exit (rowWords rows) out
+  pub written : (table out exit : List ℕ) (answer : WriteAnswer) → Writes table out answer exit
+      → tableRefusal table ≡ none → length (writeSet table) ≤ length out
+      → (answer ≡ WriteAnswer.Written (length (writeSet table))) × Holds exit (writeSet table) out
+  pub read : (text table rest exit words after : List ℕ) (answer : ReadAnswer) → Reads text table answer rest exit
+      → readSet text ≡ took words after → length words ≤ length table
+      → (answer ≡ ReadAnswer.Set (length words / 4)) × (rest ≡ after) × Holds exit words table
+
+-- writing then reading gives the numbers back; the crate text shows it
+abbrev pub WriteThenRead : Type 0
+WriteThenRead = (table after : List ℕ) → tableRefusal table ≡ none → readSet (writeSet table ++ after) ≡ took table after
+
+-- reading an in-range set then writing gives the bytes back; the crate text shows it
+abbrev pub ReadThenWrite : Type 0
+ReadThenWrite = (text words after : List ℕ) → readSet text ≡ took words after → tableRefusal words ≡ none → writeSet words ++ after ≡ text
+
+-- 3. THE VERDICT IS TRUE OF EVERY ARRIVAL PATTERN. "Meets": no legal pattern, with run times from 1 to C, makes any job late.
+-- "Misses": the named pattern makes one late. "Too far" is given only on its condition.
+
+-- how many rows a job has
+unfoldable pub rowsFor : Job → List Row → ℕ
+rowsFor j [] = 0
+rowsFor j (w ∷ ws) = (if same j (w .job) then 1 else 0) + rowsFor j ws
+
+-- a pattern is run whole: each of its jobs has exactly one row, and no row is of another job
+pub record Whole (js : List Job) : Type 0 where
+  pub each-once : (j : Job) → List·Memᴰ j js → rowsFor j (dispatch js) ≡ 1
+  pub no-other : (w : Row) → List·Memᴰ w (dispatch js) → List·Memᴰ (w .job) js
+
+-- it makes no job late
+pub record InTime (js : List Job) : Type 0 where
+  pub whole : Whole js
+  pub on-time : (w : Row) → List·Memᴰ w (dispatch js) → late w ≡ false
+
+-- it is legal, all its jobs run for C, and it makes a job late
+pub record MakesLate (ts : List Task) (js : List Job) : Type 0 where
+  pub legal : Legal ts js
+  pub for-C : (j : Job) → List·Memᴰ j js → j .run ≡ taskAt ts (j .task) .C
+  pub whole : Whole js
+  pub late-row : (w : Row) × List·Memᴰ w (dispatch js) × (late w ≡ true)
+
+-- x is the least number from 1 to H that passes a test
+abbrev pub Least : (ℕ → Bool) → ℕ → Type 0
+Least p x = (1 ≤ x) × (x ≤ horizon) × (p x ≡ true) × ((y : ℕ) → 1 ≤ y → y < x → p y ≡ false)
+
+-- no number from 1 to H passes
+abbrev pub None : (ℕ → Bool) → Type 0
+None p = (y : ℕ) → 1 ≤ y → y ≤ horizon → p y ≡ false
+
+-- when each verdict is due, with what it carries
+abbrev pub Condition : List Task → Verdict → Type 0
+Condition ts (Verdict.Misses L b) = Least (λ K. fails K ts) L × (b ≡ blocker L ts)
+Condition ts (Verdict.Meets σ) = None (λ K. fails K ts) × Least (λ t. closes t ts) σ
+Condition ts Verdict.TooFar = None (λ K. fails K ts) × None (λ t. closes t ts)
+
+-- what each verdict promises of the patterns
+abbrev pub Kept : List Task → Verdict → Type 0
+Kept ts (Verdict.Meets σ) = Least (λ t. closes t ts) σ × ((js : List Job) → Legal ts js → InTime js)
+Kept ts (Verdict.Misses L b) = MakesLate ts (named L ts)
+Kept ts Verdict.TooFar = None (λ K. fails K ts) × None (λ t. closes t ts)
+
+-- the verdict call's answer, kept
+abbrev pub KeptBy : List ℕ → VerdictAnswer → Type 0
+KeptBy table (VerdictAnswer.Judged v) = Kept (tasksOf table) v
+KeptBy table (VerdictAnswer.Refused r) = Unit {0}
+
+-- each verdict is given exactly on its condition, so that one is always due and never two; and it is kept,
+-- for every table and for tasks with C, D and T of 1 or more without an upper bound
+pub record TrueOfEveryPattern : Type 0 where
+  pub exactly : (ts : List Task) (v : Verdict) → (verdict ts ≡ v) ↔ Condition ts v
+  pub one-due : (ts : List Task) → One Verdict (Condition ts)
+  pub kept : (ts : List Task) → AllSound ts → Kept ts (verdict ts)
+  pub kept-table : (table : List ℕ) → tableRefusal table ≡ none → Kept (tasksOf table) (verdict (tasksOf table))
+  pub kept-by : (table : List ℕ) → KeptBy table (verdictAnswer table)

@@ -1,0 +1,1 @@
+// The demands and their proofs. No code: specs/Demands.antt states them, proofs/ shows them.

@@ -1,0 +1,106 @@
+-- The late job that a schedule names: of the late rows' jobs the one with the least deadline, ties to the lower task.
+use mathlib.Core.Path.{_≡_, refl, sym, ap, _∙_}
+use mathlib.Core.Logic.{_↔_}
+use mathlib.Core.Option.{Option, none, some}
+use Prim.Native.Nat.{ℕ, _≤_, _<_}
+use native.Mathlib.Omega.{arith}
+use mathlib.Core.List.{List, [], _∷_, List·Memᴰ, List·Memᴰ·head, List·Memᴰ·tail, List·Memᴰ·not-nil}
+use mathlib.Core.Bool.{Bool, true, false, _&&_, _||_}
+use lib.Dec.{ltb, eqb}
+use borrow.Author.Tests.{ltb-true, eqb-true}
+use Rattle.rules.specs.Choice.{if_then_else_}
+use Rattle.rules.specs.Dispatch.{Job, Row, late, before, sooner, lateJob}
+use Rattle.rules.proofs.Tests.{true-is-not-false}
+use Rattle.rules.proofs.Picked.{Ahead, ahead-self, ahead-trans, before-true, before-false}
+
+-- one that is ahead is not gone before
+pub ahead-first : (j i : Job) → Ahead j i → before i j ≡ false
+unfolding before
+ahead-first j i a = go (ltb (i .deadline) (j .deadline)) refl (eqb (i .deadline) (j .deadline)) refl (ltb (i .task) (j .task)) refl
+  where
+    go : (p : Bool) → ltb (i .deadline) (j .deadline) ≡ p → (q : Bool) → eqb (i .deadline) (j .deadline) ≡ q
+        → (r : Bool) → ltb (i .task) (j .task) ≡ r → p || (q && r) ≡ false
+    go true e q f r g = let l = ltb-true (i .deadline) (j .deadline) e in absurd (omega arith)
+    go false e false f r g = refl
+    go false e true f false g = refl
+    go false e true f true g =
+        let d = eqb-true (i .deadline) (j .deadline) f in
+        let l = ltb-true (i .task) (j .task) g in
+        let h = a .task (sym d) in
+        absurd (omega arith)
+
+-- j is the job of a late row, and is ahead of every late row's job
+record Latest (ws : List Row) (j : Job) : Type 0 where
+  row : Row
+  mem : List·Memᴰ row ws
+  is-late : late row ≡ true
+  its-job : row .job ≡ j
+  ahead : (v : Row) → List·Memᴰ v ws → late v ≡ true → Ahead j (v .job)
+
+data Named (ws : List Row) : Option Job → Type 0 where
+  nobody : ((w : Row) → List·Memᴰ w ws → late w ≡ false) → Named ws none
+  somebody : {j : Job} → Latest ws j → Named ws (some j)
+
+-- what holds of the first row and of every later one holds of every row
+row-cons : (P : Row → Type 0) {w : Row} {ws : List Row} → P w → ((v : Row) → List·Memᴰ v ws → P v) → (v : Row) → List·Memᴰ v (w ∷ ws) → P v
+row-cons P h t v (List·Memᴰ·head e) = rw e h
+row-cons P h t v (List·Memᴰ·tail m) = t v m
+
+-- one row more
+module _ (w : Row) (ws : List Row) where
+  keep : (j : Job) → Latest ws j → (late w ≡ true → Ahead j (w .job)) → Named (w ∷ ws) (some j)
+  keep j x h = somebody (record {
+    row = x .row;
+    mem = List·Memᴰ·tail (x .mem);
+    is-late = x .is-late;
+    its-job = x .its-job;
+    ahead = row-cons (λ v. late v ≡ true → Ahead j (v .job)) h (x .ahead);
+  })
+
+  change : late w ≡ true → ((v : Row) → List·Memᴰ v ws → late v ≡ true → Ahead (w .job) (v .job)) → Named (w ∷ ws) (some (w .job))
+  change e h = somebody (record {
+    row = w;
+    mem = List·Memᴰ·head refl;
+    is-late = e;
+    its-job = refl;
+    ahead = row-cons (λ v. late v ≡ true → Ahead (w .job) (v .job)) (λ x. ahead-self (w .job)) h;
+  })
+
+  named-cons : (b : Bool) → late w ≡ b → (o : Option Job) → Named ws o → Named (w ∷ ws) (if b then sooner (w .job) o else o)
+  unfolding sooner
+  named-cons false e none (nobody f) = nobody (row-cons (λ v. late v ≡ false) e f)
+  named-cons false e (some j) (somebody x) = keep j x (λ h. true-is-not-false (sym h ∙ e))
+  named-cons true e none (nobody f) = change e (λ v m h. true-is-not-false (sym h ∙ f v m))
+  named-cons true e (some j) (somebody x) = go (before j (w .job)) refl
+    where
+      go : (c : Bool) → before j (w .job) ≡ c → Named (w ∷ ws) (if c then some j else some (w .job))
+      go true q = keep j x (λ h. before-true j (w .job) q)
+      go false q = change e (λ v m h. ahead-trans (w .job) j (v .job) (before-false j (w .job) q) (x .ahead v m h))
+
+names : (ws : List Row) → Named ws (lateJob ws)
+unfolding lateJob
+names [] = nobody (λ w m. absurd (List·Memᴰ·not-nil m))
+names (w ∷ ws) = named-cons w ws (late w) refl (lateJob ws) (names ws)
+
+-- there is no late job exactly if no row is late
+pub late-none : (ws : List Row) → (lateJob ws ≡ none) ↔ ((w : Row) → List·Memᴰ w ws → late w ≡ false)
+late-none ws = go (lateJob ws) (names ws)
+  where
+    go : (o : Option Job) → Named ws o → (o ≡ none) ↔ ((w : Row) → List·Memᴰ w ws → late w ≡ false)
+    go none (nobody f) = (λ e. f, λ g. refl)
+    go (some j) (somebody x) =
+        (λ e. let z : _≡_ {A = ℕ} 0 1 = cc in absurd (omega arith), λ g. true-is-not-false (sym (x .is-late) ∙ g (x .row) (x .mem)))
+
+-- else it is the job of a late row, and no late row's job goes before it
+pub late-some : (ws : List Row) (j : Job) → lateJob ws ≡ some j
+    → ((w : Row) × List·Memᴰ w ws × (late w ≡ true) × (w .job ≡ j))
+    × ((v : Row) → List·Memᴰ v ws → late v ≡ true → before (v .job) j ≡ false)
+late-some ws j = go (lateJob ws) (names ws)
+  where
+    go : (o : Option Job) → Named ws o → o ≡ some j
+        → ((w : Row) × List·Memᴰ w ws × (late w ≡ true) × (w .job ≡ j))
+        × ((v : Row) → List·Memᴰ v ws → late v ≡ true → before (v .job) j ≡ false)
+    go none (nobody f) e = let z : _≡_ {A = ℕ} 0 1 = cc in absurd (omega arith)
+    go (some i) (somebody x) e =
+        let q : i ≡ j = cc in
+        ((x .row, x .mem, x .is-late, x .its-job ∙ q), λ v m h. rw q at (ahead-first i (v .job) (x .ahead v m h)))

@@ -1,0 +1,3 @@
+-- Laws that the proofs share.
+pub mod Looks
+pub mod Answered

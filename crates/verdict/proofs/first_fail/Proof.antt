@@ -1,0 +1,46 @@
+use mathlib.Core.Path.{sym, _∙_}
+use Prim.Native.Nat.{_-_, _≤_}
+use native.Mathlib.Omega.{arith}
+use Rattle.rules.specs.Task.{tasksOf}
+use Rattle.rules.specs.Demand.{fails, firstFail}
+use Rattle.rules.proofs.Search.{NonePasses, none-until}
+use Rattle.verdict.proofs.Looks.{stops-at, stops-nowhere}
+use Rattle.verdict.proofs.first_fail.Statement.{statement}
+use Rattle.verdict.proofs.first_fail.Tie as tie
+
+abbrev Inv-loop : tie.InvT-loop
+Inv-loop table length₀ length = (1 ≤ length) × (length ≤ 100001) × NonePasses (λ L. fails L (tasksOf table)) 1 length
+
+abbrev μ-loop : tie.MeasureT-loop
+μ-loop table length₀ length = 100001 - length
+
+loop-holds : tie.Need-loop-holds Inv-loop μ-loop
+loop-holds c = (omega arith, omega arith, λ y a b. absurd (omega arith))
+
+fails-at-requires : tie.Need-fails-at-requires Inv-loop μ-loop
+fails-at-requires c κs = c .before .before .before .pre
+
+returns : tie.Need-returns Inv-loop μ-loop
+unfolding firstFail
+returns c =
+    let a = c .before .before .before .loop .inv in
+    stops-at _ _ (a .2) (a .0) (omega arith) (sym (c .before .fails-at .ensures) ∙ c .if1 .taken)
+
+add-length : tie.Need-add-length Inv-loop μ-loop
+add-length c = omega arith
+
+loop-less : tie.Need-loop-less Inv-loop μ-loop
+loop-less c = omega arith
+
+loop-again : tie.Need-loop-again Inv-loop μ-loop
+loop-again c =
+    let a = c .before .before .before .loop .inv in
+    (omega arith, omega arith, none-until _ _ _ (a .2) (sym (c .before .fails-at .ensures) ∙ c .if1 .left))
+
+returns-2 : tie.Need-returns-2 Inv-loop μ-loop
+unfolding firstFail
+returns-2 c = stops-nowhere _ _ (c .before .loop .inv .2) (c .loop-test .left)
+
+pub first-fail-spec : {M : Type 1} → statement M
+first-fail-spec =
+    tie.close (tie.spec Inv-loop μ-loop loop-holds fails-at-requires returns add-length loop-less loop-again returns-2)

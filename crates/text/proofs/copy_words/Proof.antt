@@ -1,0 +1,74 @@
+use mathlib.Core.Path.{_≡_, refl, ap, _∙_}
+use Prim.Native.Nat.{ℕ, _-_, _≤_}
+use native.Mathlib.Omega.{arith}
+use mathlib.Core.List.{_++_}
+use lib.ListN.{length, take, drop, length-set}
+use Rattle.text.proofs.Scanning.{copy-step}
+use borrow.Author.Needs.{needs}
+use Rattle.text.proofs.copy_words.Statement.{statement}
+use Rattle.text.proofs.copy_words.Tie as tie
+
+abbrev Inv-loop : tie.InvT-loop
+Inv-loop from n to₀ i₀ to i = (i ≤ n) × ((to ≡ take i from ++ drop i to₀) × (length to ≡ length to₀))
+
+abbrev μ-loop : tie.MeasureT-loop
+μ-loop from n to₀ i₀ to i = n - i
+
+loop-holds : tie.Need-loop-holds Inv-loop μ-loop
+loop-holds c = (omega arith, (refl, refl))
+
+mul-to : tie.Need-mul-to Inv-loop μ-loop
+mul-to c = search needs
+
+shared-slice-read-to : tie.Need-shared-slice-read-to Inv-loop μ-loop
+shared-slice-read-to c = search needs
+
+mul-to-2 : tie.Need-mul-to-2 Inv-loop μ-loop
+mul-to-2 c = search needs
+
+slice-write-to : tie.Need-slice-write-to Inv-loop μ-loop
+slice-write-to c = search needs
+
+add-i : tie.Need-add-i Inv-loop μ-loop
+add-i c = search needs
+
+loop-less : tie.Need-loop-less Inv-loop μ-loop
+loop-less c = search needs
+
+loop-again : tie.Need-loop-again Inv-loop μ-loop
+loop-again c =
+    let w = c .before .before in
+    let a = w .before .args in (
+      omega arith,
+      (
+        copy-step (a .from .now) (a .to .now) _ _ (omega arith) (omega arith) (w .loop .inv .1 .0),
+        simp length-set (w .loop .inv .1 .1),
+      ),
+    )
+
+same-length : tie.Need-same-length Inv-loop μ-loop
+same-length c = search needs
+
+returns : tie.Need-returns Inv-loop μ-loop
+returns c =
+    let w = c .before in
+    let a = w .before .args in
+    let e : w .loop .i ≡ a .n = omega arith in
+    w .loop .inv .1 .0 ∙ ap (λ (k : ℕ). take k (a .from .now) ++ drop k (a .to .now)) e
+
+pub copy-words-spec : {M : Type 1} → statement M
+copy-words-spec =
+    tie.close
+    (tie.spec
+    Inv-loop
+    μ-loop
+    loop-holds
+    mul-to
+    shared-slice-read-to
+    mul-to-2
+    slice-write-to
+    add-i
+    loop-less
+    loop-again
+    same-length
+    returns)

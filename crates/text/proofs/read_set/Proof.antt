@@ -1,0 +1,130 @@
+use mathlib.Core.Path.{_≡_, sym, ap, _∙_, subst}
+use Prim.Native.Nat.{ℕ, _*_}
+use native.Mathlib.Omega.{arith}
+use mathlib.Core.List.{List, _++_}
+use lib.ListN.{length, take, drop}
+use lib.Seq.{length-take-le}
+use Rattle.rules.specs.Text.{got, tasksKey, readLine, readSet}
+use Rattle.rules.specs.Calls.{Reads}
+use Rattle.rules.specs.declared.ReadAnswer.the-variants.{Set}
+use Rattle.lines.specs.Line.{seen}
+use Rattle.lines.specs.declared.Number.{Number}
+use Rattle.text.specs.Reader.{scanned}
+use Rattle.text.specs.declared.Scan.{Scan}
+use Rattle.text.specs.declared.Scan.the-variants.{Whole}
+use Rattle.text.proofs.Sets.{no-first, no-task, too-many, some-tasks, stopped, short, whole}
+use borrow.Author.Needs.{needs}
+use Rattle.text.proofs.read_set.Statement.{statement}
+use Rattle.text.proofs.read_set.Tie as tie
+
+-- the first line, where it is a number
+first-line : (c : tie.After-known-told)
+    → readLine tasksKey (c .before .before .before .before .before .before .before .before .args .text .now)
+    ≡ got (c .before .first .given .0 .0) (c .before .before .before .read-line .last .1 .1 .0 .now)
+first-line c =
+    let f = c .before .before .before .read-line in
+    sym (f .ensures .says) ∙ ap (λ (n : Number). seen n (f .last .1 .1 .0 .now)) (c .before .first .given .1)
+
+-- what the scan said is the set
+scan-is : (c : tie.After-task-lines) (r : Scan) → c .task-lines .result ≡ r
+    → readSet (c .before .before .before .before .before .before .before .before .before .before .before .before .before .args .text .now)
+    ≡ scanned r (take (4 * c .before .before .before .before .before .before .first .given .0 .0) (c .task-lines .last .1 .1 .0)) (c .task-lines .last .1 .1 .1 .0 .now)
+scan-is c r e =
+    rw (← e) (some-tasks _ _ _ (first-line (c .before .before .before .before .before)) (omega arith) (omega arith) ∙ sym (c .task-lines .ensures))
+
+slice-aggregate-read-line : tie.Need-slice-aggregate-read-line
+slice-aggregate-read-line c = search needs
+
+read-line-requires : tie.Need-read-line-requires
+read-line-requires c κs = search needs
+
+enum-known-first : tie.Need-enum-known-first
+enum-known-first c = search needs
+
+enum-told : tie.Need-enum-told
+enum-told c = search needs
+
+returns : tie.Need-returns
+returns c =
+    let f = c .before .before .read-line in
+    stopped _ _ 1 (no-first _ (sym (f .ensures .says) ∙ ap (λ (n : Number). seen n (f .last .1 .1 .0 .now)) (c .enum-told .given .1)))
+
+returns-2 : tie.Need-returns-2
+returns-2 c = stopped _ _ 1 (no-task _ _ _ (first-line (c .before)) (c .if1 .taken))
+
+returns-3 : tie.Need-returns-3
+returns-3 c = stopped _ _ 1 (too-many _ _ _ (first-line (c .before .before)) (c .before .if1 .left) (c .if2 .taken))
+
+cast-m : tie.Need-cast-m
+cast-m c = search needs
+
+mul-m : tie.Need-mul-m
+mul-m c = search needs
+
+slice-aggregate-task-lines : tie.Need-slice-aggregate-task-lines
+slice-aggregate-task-lines c = search needs
+
+task-lines-requires : tie.Need-task-lines-requires
+task-lines-requires c κs = search needs
+
+enum-known-scan : tie.Need-enum-known-scan
+enum-known-scan c = search needs
+
+returns-4 : tie.Need-returns-4
+returns-4 c = stopped _ _ _ (scan-is (c .before .before .before .before) _ (c .before .scan .given .1))
+
+enum-told-2 : tie.Need-enum-told-2
+enum-told-2 c = search needs
+
+returns-5 : tie.Need-returns-5
+returns-5 c =
+    let d = c .before .before .before .before in
+    let m = 4 * d .before .before .before .before .before .before .first .given .0 .0 in
+    let n : length (take m (d .task-lines .last .1 .1 .0)) ≡ m = length-take-le m (d .task-lines .last .1 .1 .0) (omega arith) in
+    short _ _ _ _ (scan-is d Whole (c .before .enum-told2 .given .1)) (omega arith)
+
+slice-aggregate-copy-words : tie.Need-slice-aggregate-copy-words
+slice-aggregate-copy-words c = search needs
+
+copy-words-requires : tie.Need-copy-words-requires
+copy-words-requires c κs = search needs
+
+same-length : tie.Need-same-length
+same-length c = search needs
+
+returns-6 : tie.Need-returns-6
+returns-6 c =
+    let x = c .before .before .before .before .before .before in
+    let d = x .before .before .before in
+    let f = d .task-lines in
+    let v = d .before .before .before .before .before .before .first .given .0 .0 in
+    let ws = take (4 * v) (f .last .1 .1 .0) in
+    let a = d .before .before .before .before .before .before .before .before .before .before .before .before .before .args in
+    let l = a .table .now in
+    let n : length ws ≡ 4 * v = length-take-le (4 * v) (f .last .1 .1 .0) (omega arith) in
+    let q : c .before .before .copy-words .last .1 .1 .0 ≡ ws ++ drop (length ws) l = c .before .before .copy-words .ensures ∙ ap (λ (k : ℕ). ws ++ drop k l) (sym n) in
+    subst (λ (y : List ℕ). Reads (a .text .now) l (Set v) (f .last .1 .1 .1 .0 .now) y) (sym q) (whole (a .text .now) l ws _ (scan-is d Whole (x .enum-told2 .given .1)) v n (omega arith))
+
+pub read-set-spec : {M : Type 1} → statement M
+read-set-spec =
+    tie.close
+    (tie.spec
+    slice-aggregate-read-line
+    read-line-requires
+    enum-known-first
+    enum-told
+    returns
+    returns-2
+    returns-3
+    cast-m
+    mul-m
+    slice-aggregate-task-lines
+    task-lines-requires
+    enum-known-scan
+    returns-4
+    enum-told-2
+    returns-5
+    slice-aggregate-copy-words
+    copy-words-requires
+    same-length
+    returns-6)

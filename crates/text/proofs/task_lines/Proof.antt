@@ -1,0 +1,106 @@
+use mathlib.Core.Path.{_≡_, refl, sym, ap, _∙_}
+use Prim.Native.Nat.{ℕ, _-_, _≤_}
+use native.Mathlib.Omega.{arith}
+use lib.ListN.{length, take, length-set}
+use Rattle.rules.specs.Text.{readLines}
+use Rattle.lines.specs.Line.{seen}
+use Rattle.lines.specs.declared.Number.{Number}
+use Rattle.text.proofs.Scanning.{aheads, aheads-none, lines-done, lines-more, lines-wrong}
+use borrow.Author.Needs.{needs}
+use Rattle.text.proofs.task_lines.Statement.{statement}
+use Rattle.text.proofs.task_lines.Tie as tie
+
+abbrev Inv-loop : tie.InvT-loop
+Inv-loop s m words₀ rest t₀ k₀ words t k = (k ≤ m) × ((length words ≡ length words₀) × (aheads (take k words) (readLines (m - k) k t) ≡ readLines m 0 s))
+
+abbrev μ-loop : tie.MeasureT-loop
+μ-loop s m words₀ rest t₀ k₀ words t k = m - k
+
+loop-holds : tie.Need-loop-holds Inv-loop μ-loop
+loop-holds c =
+    let a = c .before .before .args in
+    let e : a .m - 0 ≡ a .m = omega arith in
+    (omega arith, (refl, aheads-none _ ∙ ap (λ (n : ℕ). readLines n 0 (a .s .now)) e))
+
+task-line-requires : tie.Need-task-line-requires Inv-loop μ-loop
+task-line-requires c κs = search needs
+
+enum-known-n : tie.Need-enum-known-n Inv-loop μ-loop
+enum-known-n c = search needs
+
+enum-told : tie.Need-enum-told Inv-loop μ-loop
+enum-told c = search needs
+
+add-t13 : tie.Need-add-t13 Inv-loop μ-loop
+add-t13 c = search needs
+
+cast-t14 : tie.Need-cast-t14 Inv-loop μ-loop
+cast-t14 c = search needs
+
+same-length : tie.Need-same-length Inv-loop μ-loop
+same-length c = search needs
+
+returns : tie.Need-returns Inv-loop μ-loop
+returns c =
+    let w = c .before .before .before .before .before in
+    let f = c .before .before .task-line in
+    sym (lines-wrong _ _ (w .loop .words) (w .loop .t .now) (omega arith) (sym (f .ensures .says) ∙ ap (λ (n : Number). seen n (f .last .1 .1 .0 .now)) (c .enum-told .given .1)))
+    ∙ w .loop .inv .1 .1
+
+mul-words : tie.Need-mul-words Inv-loop μ-loop
+mul-words c = search needs
+
+slice-write-words : tie.Need-slice-write-words Inv-loop μ-loop
+slice-write-words c = search needs
+
+add-k : tie.Need-add-k Inv-loop μ-loop
+add-k c = search needs
+
+loop-less : tie.Need-loop-less Inv-loop μ-loop
+loop-less c = search needs
+
+loop-again : tie.Need-loop-again Inv-loop μ-loop
+loop-again c =
+    let w = c .before .before .before .before .before .before in
+    let f = c .before .before .before .task-line in
+    let g = c .before .n .given in
+    let m = w .before .before .before .args .m in (
+      omega arith,
+      (
+        simp length-set (w .loop .inv .1 .0),
+        lines-more m (w .loop .k) (w .loop .words) (w .loop .t .now) (omega arith) (g .0 .0) (f .last .1 .1 .0 .now) (omega arith) (sym (f .ensures .says) ∙ ap (λ (n : Number). seen n (f .last .1 .1 .0 .now)) (g .1))
+            ∙ w .loop .inv .1 .1,
+      ),
+    )
+
+same-length-2 : tie.Need-same-length-2 Inv-loop μ-loop
+same-length-2 c = search needs
+
+returns-2 : tie.Need-returns-2 Inv-loop μ-loop
+returns-2 c =
+    let w = c .before in
+    let m = w .before .before .before .args .m in
+    let e : w .loop .k ≡ m = omega arith in
+    sym (lines-done m (w .loop .k) (w .loop .words) (w .loop .t .now) e) ∙ w .loop .inv .1 .1
+
+pub task-lines-spec : {M : Type 1} → statement M
+task-lines-spec =
+    tie.close
+    (tie.spec
+    Inv-loop
+    μ-loop
+    loop-holds
+    task-line-requires
+    enum-known-n
+    enum-told
+    add-t13
+    cast-t14
+    same-length
+    returns
+    mul-words
+    slice-write-words
+    add-k
+    loop-less
+    loop-again
+    same-length-2
+    returns-2)

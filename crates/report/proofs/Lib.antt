@@ -1,3 +1,5 @@
--- Laws of the report: how its parts are put one after the other, and what is answered of the first set.
+-- Laws of the report; Promises has the proofs of specs/Promises, which callers cite.
 pub mod Parts
 pub mod Sets
+pub mod Reported
+pub mod Promises

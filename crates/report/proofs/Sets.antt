@@ -1,12 +1,12 @@
 -- What is answered of the first set, by what was read of it; and how long its lines can be.
 use mathlib.Core.Path.{_≡_, refl, sym, ap, _∙_}
-use Prim.Native.Nat.{ℕ, _+_, _≤_}
+use Prim.Native.Nat.{ℕ, _+_, _*_, _≤_}
 use native.Mathlib.Omega.{arith}
 use mathlib.Core.List.{List, [], _∷_, _++_}
 use mathlib.Core.Option.{Option, none, some}
-use lib.ListN.{length, length-append}
+use lib.ListN.{length, take, length-append}
 use Rattle.rules.specs.Task.{tasksOf}
-use Rattle.rules.specs.Refusals.{firstOf, numberOf, answering}
+use Rattle.rules.specs.Refusals.{firstOf, numberOf, valueOf, answering}
 use Rattle.rules.specs.Table.{tableRefusal}
 use Rattle.rules.specs.Demand.{verdict}
 use Rattle.rules.specs.Text.{Lines, took, stop, bytes, digits, line, readSet, wordsRead}
@@ -19,7 +19,8 @@ use Rattle.rules.specs.declared.Verdict.{Verdict}
 use Rattle.rules.specs.declared.VerdictAnswer.{VerdictAnswer}
 use Rattle.lines.proofs.Digits.{digits-most}
 use Rattle.lines.proofs.Putting.{line-length}
-use Rattle.report.specs.First.{firstAnswer, answerLines, linesOf}
+use Rattle.text.proofs.Callers.{Took}
+use Rattle.report.specs.First.{firstAnswer, answerLines, linesOf, Judges}
 
 -- a list of one refusal that may be given
 only : (o : Option Refusal) → firstOf (o ∷ []) ≡ o
@@ -47,6 +48,27 @@ module _ (text : List ℕ) where
     pub stop-rest : setRest text ≡ []
     unfolding setRest
     stop-rest = rw e
+
+  -- so the verdict call's answer for the words that a reader left is the set's
+  pub judged-first : {table rest exit : List ℕ} {n : ℕ} {a : VerdictAnswer} → Took text table n rest exit → a ≡ verdictAnswer (take (4 * n) exit)
+      → Judges text (record { answer = a; left = length rest })
+  judged-first t v =
+      record { says = v ∙ sym (set-answer _ _ (t .set)); leaves = ap length (sym (set-rest _ _ (t .set))) }
+
+  -- and a reader's refusal of a line, with the number that it carries, is the set's
+  pub refused-first : (r : Refusal) (number : ℕ) → lineRefusal (readSet text) ≡ some r → number ≡ valueOf r
+      → Judges text (record { answer = VerdictAnswer.Refused (BadLine number); left = 0 })
+  refused-first r number e m = by-set (readSet text) refl e
+    where
+      by-set : (k : Lines) → readSet text ≡ k → lineRefusal k ≡ some r → Judges text (record { answer = VerdictAnswer.Refused (BadLine number); left = 0 })
+      by-set (took ws q) p e = let z : _≡_ {A = ℕ} 0 1 = cc in absurd (omega arith)
+      by-set (stop l) p e =
+          let i : BadLine l ≡ r = cc in
+          let j : number ≡ l = m ∙ sym (ap valueOf i) in
+          record {
+            says = ap (λ (x : ℕ). VerdictAnswer.Refused (BadLine x)) j ∙ sym (stop-answer l p);
+            leaves = ap length (sym (stop-rest l p));
+          }
 
   -- the lines of that answer are the set's lines
   pub lines-are : (n : ℕ) → linesOf n (firstAnswer text) ≡ setLines n text

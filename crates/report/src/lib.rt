@@ -103,3 +103,45 @@ fn put_set(out: &mut [u8], number: u32, answer: VerdictAnswer) -> usize
     let a = lines::put_line(out, 0, b"set=", number);
     put_answer(out, a, answer)
 }
+
+// The first set of a text is judged. A table of 256 words has room for any set, so the reader refuses by 7 alone.
+fn judge_first(text: &[u8]) -> First
+    ensures { λ r. ⌜ Judges (now (text .entry)) r ⌝ }
+{
+    let mut table = [0u32; 256];
+    let mut code: u32 = 0;
+    let mut number: u32 = 0;
+    let rest = text::read(text, &mut table, &mut code, &mut number);
+    let answer = text::read_answer(code, number);
+    let ReadAnswer::Set(n) = answer else {
+        return First {
+            answer: VerdictAnswer::Refused(Refusal::BadLine(number)),
+            left: 0,
+        };
+    };
+    let m = 4 * n as usize;
+    First {
+        answer: verdict::verdict(&table[..m]),
+        left: rest.len(),
+    }
+}
+
+// THE REPORT. The lines for the first set of a text, as set of that number, go to the start of out. The answer is their length, and how many
+// bytes of the text are left to read.
+pub fn report(number: u32, text: &[u8], out: &mut [u8]) -> ReportAnswer
+    ensures { λ r. ⌜ Reports number (now (text .entry)) (now (out .entry)) r (now (out .exit)) ⌝ }
+{
+    let first = judge_first(text);
+    let answer = first.answer;
+    let left = first.left;
+    let mut page = [0u8; 128];
+    let length = put_set(&mut page, number, answer);
+    if out.len() < length {
+        return ReportAnswer::Refused(Refusal::TooShort);
+    }
+    lines::put_bytes(out, 0, &page[..length]);
+    ReportAnswer::Reported {
+        length: length as u32,
+        left,
+    }
+}

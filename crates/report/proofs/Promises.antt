@@ -1,25 +1,23 @@
 -- The report's promises hold.
 use mathlib.Core.Path.{_≡_, refl, sym, ap, ap₂, _∙_, subst}
-use Prim.Native.Nat.{ℕ, zero, suc, _-_, _≤_, _<_}
+use Prim.Native.Nat.{ℕ, zero, suc, _-_, _<_}
+use native.Mathlib.Decide.{decLt}
 use native.Mathlib.Omega.{arith}
-use mathlib.Core.List.{List, [], _∷_, _++_, append-nil}
-use mathlib.Core.Bool.{Bool, true, false}
+use mathlib.Core.List.{List, _++_, append-nil}
 use mathlib.Core.Option.{Option, none, some}
 use lib.Dec.{eqb}
-use lib.ListN.{length, take, drop, length-append, length-drop, drop-of-length-le}
+use lib.ListN.{replicate, length, take, drop, length-append, length-drop, drop-of-length-le}
 use lib.Seq.{take-at, drop-at}
 use borrow.Author.Tests.{eq-eqb, ne-eqb, le-ltb}
-use Rattle.rules.specs.Choice.{if_then_else_}
 use Rattle.rules.specs.Refusals.{answering, lent}
 use Rattle.rules.specs.Text.{Lines, took, stop, readSet, restRead, writeSet}
-use Rattle.rules.specs.Report.{inputMost, setLines, setRest, reportRefusal, reportAnswer, reportBuffer, setsLines, output}
+use Rattle.rules.specs.Report.{setLines, setRest, reportRefusal, reportAnswer, reportBuffer, setsLines, output}
 use Rattle.rules.specs.Calls.{Reports}
 use Rattle.rules.specs.declared.Refusal.{Refusal}
-use Rattle.rules.specs.declared.ReportAnswer.{ReportAnswer}
 use Rattle.rules.specs.declared.ReportAnswer.the-variants.{Reported, Refused}
 use Rattle.text.proofs.Round.{set-back}
 use Rattle.text.proofs.Callers.{shorter}
-use Rattle.report.specs.First.{linesOf, firstAnswer}
+use Rattle.report.specs.First.{firstAnswer}
 use Rattle.report.specs.Promises.{ReportsOne, PageIsEnough, Tells, ReportedTells, Run, last, more, RunIsOutput}
 use Rattle.report.proofs.Sets.{lines-are, lines-most}
 use Rattle.report.proofs.Reported.{room}
@@ -95,6 +93,44 @@ run-lines (suc k) {n} {text} h (more {left = left} p any r) =
     ap₂ (λ (x y : List ℕ). x ++ y) (t .lines) (ih ∙ ap (setsLines k (suc n)) (t .rest))
     ∙ sym (sets-more k n text (omega (arith, t .left-is)))
 
+-- and there is one: a report into a page
+lines-run : (k : ℕ) (n : ℕ) (text : List ℕ) → length text < k → Run n text (setsLines k n text)
+lines-run zero n text h = absurd (omega arith)
+lines-run (suc k) n text h = choose (decLt 0 (length (setRest text))) (lines-run k (suc n) (setRest text))
+  where
+    page : List ℕ
+    page = replicate 128 0
+
+    exit : List ℕ
+    exit = reportBuffer n text page
+
+    size : ℕ
+    size = length (setLines n text)
+
+    left : ℕ
+    left = length (setRest text)
+
+    reports : Reports n text page (Reported size left) exit
+    reports =
+        let p : Reports n text page (reportAnswer n text page) exit = record { says = refl; leaves = refl } in
+        record { says = sym (page-is-enough n text page _ exit (omega arith) p); leaves = refl }
+
+    t : Tells n text exit size left
+    t = reported-tells _ _ _ _ _ _ _ reports refl
+
+    choose : Dec (0 < left) → (length (setRest text) < k → Run (suc n) (setRest text) (setsLines k (suc n) (setRest text))) → Run n text (setsLines (suc k) n text)
+    choose (yes a) later =
+        let f = t .fewer a in
+        subst (Run n text) (ap (λ (l : List ℕ). l ++ setsLines k (suc n) (setRest text)) (t .lines) ∙ sym (sets-more k n text a))
+        (more reports a (rw (t .rest) (later (omega arith))))
+    choose (no a) later =
+        let e : left ≡ 0 = omega arith in
+        subst (Run n text) (t .lines ∙ sym (sets-last k n text e)) (last (rw e at reports))
+
 pub run-is-output : RunIsOutput
 unfolding output
-run-is-output input printed h r = run-lines (suc (length input)) (omega arith) r ∙ sym (rw (le-ltb _ _ h))
+run-is-output input printed h =
+    let o : setsLines (suc (length input)) 1 input ≡ output input = sym (rw (le-ltb _ _ h)) in (
+      λ r. run-lines (suc (length input)) (omega arith) r ∙ o,
+      λ e. subst (Run 1 input) (o ∙ sym e) (lines-run (suc (length input)) 1 input (omega arith)),
+    )

@@ -1,32 +1,24 @@
--- The report's answer and buffer, by the room that there is; and what its answer tells the caller.
-use mathlib.Core.Path.{_≡_, refl, sym, ap, _∙_}
+-- The report's answer and buffer, by the room that there is.
+use mathlib.Core.Path.{_≡_, ap, _∙_}
 use Prim.Native.Nat.{ℕ, _+_, _≤_, _<_}
 use native.Mathlib.Nat.{zero-add}
 use native.Mathlib.Omega.{arith}
 use mathlib.Core.List.{List, _++_}
-use mathlib.Core.Option.{Option, none, some}
-use lib.ListN.{length, take, drop, length-append}
+use mathlib.Core.Option.{none, some}
+use lib.ListN.{length, take, drop}
 use lib.Seq.{take-at}
-use borrow.Author.Tests.{lt-ltb, le-ltb, ltb-false}
-use Rattle.rules.specs.Refusals.{answering, lent, _when_}
-use Rattle.rules.specs.Report.{setLines, setRest, reportRefusal, reportAnswer, reportBuffer}
+use borrow.Author.Tests.{lt-ltb, le-ltb}
+use Rattle.rules.specs.Report.{setLines, reportRefusal, reportAnswer, reportBuffer}
 use Rattle.rules.specs.Calls.{Reports}
-use Rattle.rules.specs.declared.Refusal.{Refusal}
 use Rattle.rules.specs.declared.Refusal.the-variants.{TooShort}
-use Rattle.rules.specs.declared.ReportAnswer.{ReportAnswer}
 use Rattle.rules.specs.declared.ReportAnswer.the-variants.{Reported, Refused}
-use Rattle.rules.proofs.Tests.{true-is-not-false}
 use Rattle.lines.specs.Line.{put, Puts}
-use Rattle.report.specs.First.{linesOf, firstAnswer, Judges}
+use Rattle.report.specs.First.{linesOf, Judges}
 use Rattle.report.specs.declared.First.{First}
-use Rattle.report.proofs.Sets.{lines-are, lines-most}
-
--- THE REPORT LEAVES ONE POSSIBILITY
-pub one-report : {n : ℕ} {text out x y : List ℕ} {a b : ReportAnswer} → Reports n text out a x → Reports n text out b y → (a ≡ b) × (x ≡ y)
-one-report p q = (p .says ∙ sym (q .says), p .leaves ∙ sym (q .leaves))
+use Rattle.report.proofs.Sets.{lines-are}
 
 -- bytes put at the start are the first bytes
-pub at-start : {l m : List ℕ} {r : ℕ} (vs : List ℕ) → Puts l 0 vs r m → take r m ≡ vs
+at-start : {l m : List ℕ} {r : ℕ} (vs : List ℕ) → Puts l 0 vs r m → take r m ≡ vs
 at-start {l} {m} {r} vs p =
     let e : length vs ≡ r = omega (arith, p .says) in
     ap (take r) (p .leaves) ∙ take-at vs (drop (0 + length vs) l) r e
@@ -61,4 +53,5 @@ module _ (n : ℕ) (text out : List ℕ) where
     told h r exit p =
         let e = room (omega (arith, ap length its-lines)) in
         let k : r ≡ length (setLines n text) = omega (arith, ap length its-lines, p .says) in
-        record { says = rw (e, k, j .leaves); leaves = p .leaves ∙ rw (e, its-lines) (ap (λ (m : ℕ). setLines n text ++ drop m out) (zero-add (length (setLines n text)))) }
+        let z = zero-add (length (setLines n text)) in
+        record { says = rw (e, k, j .leaves); leaves = p .leaves ∙ rw (e, its-lines) (ap (λ (m : ℕ). setLines n text ++ drop m out) z) }

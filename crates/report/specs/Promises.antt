@@ -1,6 +1,7 @@
--- What follows from the report's promise: it leaves one outcome, a page is enough, and the reports of a run over the sets are the program's
--- output. Stated of whatever meets the record.
+-- What follows from the report's promise: it leaves one outcome, a page is enough, and the reports of a run over the sets make up the
+-- program's output. Stated of whatever meets the record.
 use mathlib.Core.Path.{_≡_}
+use mathlib.Core.Logic.{_↔_}
 use Prim.Native.Nat.{ℕ, suc, _-_, _≤_, _<_}
 use mathlib.Core.List.{List, _++_}
 use lib.ListN.{length, take, drop}
@@ -19,7 +20,7 @@ PageIsEnough =
     (n : ℕ) (text out : List ℕ) (answer : ReportAnswer) (exit : List ℕ) → 128 ≤ length out → Reports n text out answer exit
     → answer ≡ Reported (length (setLines n text)) (length (setRest text))
 
--- what an answer Reported tells: the set's lines stand at the start, and the bytes left are the end of the text and fewer than all of it
+-- what is told: the set's lines stand at the start, and the bytes left are the end of the text, and where there are any, fewer than all of it
 pub record Tells (n : ℕ) (text exit : List ℕ) (size left : ℕ) : Type 0 where
   pub within : size ≤ length exit
   pub lines : take size exit ≡ setLines n text
@@ -27,6 +28,7 @@ pub record Tells (n : ℕ) (text exit : List ℕ) (size left : ℕ) : Type 0 whe
   pub rest : drop (length text - left) text ≡ setRest text
   pub fewer : 0 < left → left < length text
 
+-- an answer Reported tells that
 abbrev pub ReportedTells : Type 0
 ReportedTells =
     (n : ℕ) (text out : List ℕ) (answer : ReportAnswer) (exit : List ℕ) (size left : ℕ) → Reports n text out answer exit → answer ≡ Reported size left
@@ -39,6 +41,6 @@ pub data Run : ℕ → List ℕ → List ℕ → Type 0 where
       {n : ℕ} {text out exit printed : List ℕ} {size left : ℕ} → Reports n text out (Reported size left) exit → 0 < left
       → Run (suc n) (drop (length text - left) text) printed → Run n text (take size exit ++ printed)
 
--- such a run prints the program's output
+-- what such a run prints is the program's output, and nothing else is
 abbrev pub RunIsOutput : Type 0
-RunIsOutput = (input printed : List ℕ) → length input ≤ inputMost → Run 1 input printed → printed ≡ output input
+RunIsOutput = (input printed : List ℕ) → length input ≤ inputMost → (Run 1 input printed ↔ (printed ≡ output input))

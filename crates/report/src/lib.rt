@@ -1,5 +1,4 @@
 // The report of one set: the lines that the program prints for the first set of a text.
-ghost use mathlib.Core.Path.{_≡_};
 ghost use Prim.Native.Nat.{_+_, _≤_};
 ghost use lib.ListN.{length};
 ghost use Rattle.rules.specs.Text.{bytes, line};
@@ -15,9 +14,9 @@ use rules::Verdict;
 use rules::VerdictAnswer;
 
 // What is found of the first set: the verdict or the refusal, and how many bytes are left to read.
-pub struct First {
-    pub answer: VerdictAnswer,
-    pub left: usize,
+struct First {
+    answer: VerdictAnswer,
+    left: usize,
 }
 
 // The blocker's line is put at a place.

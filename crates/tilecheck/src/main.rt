@@ -8,7 +8,7 @@ use libc::STDOUT_FILENO;
 use rules::ReportAnswer;
 
 // What was read of standard input: all of it, so many bytes; or it fills the buffer; or a read failed.
-pub enum Input {
+enum Input {
     Whole(usize),
     TooLong,
     Failed,

@@ -60,8 +60,7 @@ verdict-requires : tie.Need-verdict-requires
 verdict-requires c κs = search needs
 
 returns-2 : tie.Need-returns-2
-returns-2 c =
-    judged-first _ (was-read (c .before .before)) (c .verdict .ensures .0)
+returns-2 c = judged-first _ (was-read (c .before .before)) (c .verdict .ensures .0)
 
 pub judge-first-spec : {M : Type 1} → statement M
 judge-first-spec =

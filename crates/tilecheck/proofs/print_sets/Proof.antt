@@ -4,7 +4,6 @@ use native.Mathlib.Omega.{arith}
 use lib.ListN.{length, take, drop, length-drop}
 use lib.Seq.{length-take-le}
 use borrow.Author.Needs.{needs}
-use Rattle.report.specs.Promises.{Tells}
 use Rattle.report.proofs.Promises.{reported-tells}
 use Rattle.tilecheck.proofs.print_sets.Statement.{statement}
 use Rattle.tilecheck.proofs.print_sets.Tie as tie

@@ -5,7 +5,6 @@ use native.Mathlib.Decide.{decLt}
 use native.Mathlib.Omega.{arith}
 use mathlib.Core.List.{List, _++_, append-nil}
 use mathlib.Core.Option.{Option, none, some}
-use lib.Dec.{eqb}
 use lib.ListN.{replicate, length, take, drop, length-append, length-drop, drop-of-length-le}
 use lib.Seq.{take-at, drop-at}
 use borrow.Author.Tests.{eq-eqb, ne-eqb, le-ltb}

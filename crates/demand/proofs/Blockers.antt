@@ -7,7 +7,6 @@ use mathlib.Core.List.{List}
 use mathlib.Core.Bool.{Bool, true, false, _&&_}
 use lib.Dec.{ltb, eqb}
 use borrow.Author.Tests.{ltb-true, leb-true, lt-ltb, le-ltb, eq-eqb, ne-eqb}
-use Rattle.rules.specs.Choice.{if_then_else_}
 use Rattle.rules.specs.Task.{Task, tasksOf}
 use Rattle.rules.specs.Table.{taskIn}
 use Rattle.rules.specs.Demand.{wait, Wait, firstWaiting, blocker}
@@ -58,39 +57,25 @@ module _ (w : List ℕ) (L i : ℕ) (some-left : 0 < i) (in-range : i ≤ taskCo
   unfolding Wait firstWaiting
   holds-new a =
       rw (left-more w i some-left in-range)
-      (record {
-        most-is = omega (arith, h .most-is);
-        task-is =
-            λ pos.
-            sym (ap (λ (b : Bool). if b then i - 1 else firstWaiting r L (suc (i - 1)) (tasksLeft w i)) (waits-so L (taskIn w (i - 1)) r (sym r-is) pos));
-      })
+      (record { most-is = omega (arith, h .most-is); task-is = λ pos. rw (waits-so L (taskIn w (i - 1)) r (sym r-is) pos) })
 
   -- or not as long
   pub holds-on : r < most → Holds L (i - 1) (tasksLeft w (i - 1)) most task
   unfolding Wait firstWaiting
   holds-on a =
-      let e : i ≡ suc (i - 1) = omega arith in
+      let e : suc (i - 1) ≡ i = omega arith in
       rw (left-more w i some-left in-range)
       (record {
         most-is = omega (arith, h .most-is);
-        task-is =
-            λ pos.
-            h .task-is pos
-            ∙ ap (λ (k : ℕ). firstWaiting most L k (tasksLeft w i)) e
-            ∙ sym (ap (λ (b : Bool). if b then i - 1 else firstWaiting most L (suc (i - 1)) (tasksLeft w i)) (waits-less L (taskIn w (i - 1)) most (omega arith)));
+        task-is = λ pos. rw (waits-less L (taskIn w (i - 1)) most (omega arith), e) (h .task-is pos);
       })
 
 -- what they say of the blocker
 module _ (L : ℕ) (ts : List Task) (most task : ℕ) (h : Holds L 0 ts most task) where
-  blocker-if : Bool → Blocker
-  blocker-if b = if b then Blocker.Task (firstWaiting (Wait L ts) L 0 ts) else Blocker.Nobody
-
   pub blocks : (most ≡ 0 → ⊥) → Blocker.Task task ≡ blocker L ts
-  unfolding blocker blocker-if
-  blocks n =
-      ap Blocker.Task (h .task-is (omega arith) ∙ ap (λ (W : ℕ). firstWaiting W L 0 ts) (h .most-is))
-      ∙ sym (ap blocker-if (lt-ltb 0 (Wait L ts) (omega (arith, h .most-is))))
+  unfolding blocker
+  blocks n = rw (← h .most-is, lt-ltb 0 most (omega arith)) (ap Blocker.Task (h .task-is (omega arith)))
 
   pub blocks-not : most ≡ 0 → Blocker.Nobody ≡ blocker L ts
-  unfolding blocker blocker-if
-  blocks-not e = sym (ap blocker-if (le-ltb 0 (Wait L ts) (omega (arith, h .most-is))))
+  unfolding blocker
+  blocks-not e = rw (← h .most-is, le-ltb 0 most (omega arith))

@@ -6,7 +6,7 @@ use mathlib.Core.Bool.{Bool, true, false}
 use mathlib.Core.Option.{none, some}
 use lib.Dec.{eqb}
 use borrow.Author.Tests.{eqb-true, eqb-false}
-use Rattle.rules.specs.Choice.{if_then_else_, least}
+use Rattle.rules.specs.Choice.{least}
 use Rattle.rules.proofs.Tests.{true-is-not-false}
 
 -- none of the numbers from k up to below e passes
@@ -39,11 +39,11 @@ module _ (p : ℕ → Bool) where
 
   here : (n k : ℕ) → p k ≡ true → least p (suc n) k ≡ some k
   unfolding least
-  here n k q = ap (λ (b : Bool). if b then some k else least p n (suc k)) q
+  here n k q = rw q
 
   later : (n k : ℕ) → p k ≡ false → least p (suc n) k ≡ least p n (suc k)
   unfolding least
-  later n k q = ap (λ (b : Bool). if b then some k else least p n (suc k)) q
+  later n k q = rw q
 
   -- what was found is the least that passes
   pub found : (n k x : ℕ) → least p n k ≡ some x → Least p n k x

@@ -8,7 +8,7 @@ use mathlib.Core.List.{List, [], _∷_, List·Memᴰ·head, List·Memᴰ·tail}
 use mathlib.Core.Bool.{Bool, true, false}
 use mathlib.Core.Option.{Option, none, some}
 use borrow.Author.Tests.{leb-true, ltb-true, le-leb, lt-ltb, le-ltb, lt-leb}
-use Rattle.rules.specs.Choice.{if_then_else_, least}
+use Rattle.rules.specs.Choice.{least}
 use Rattle.rules.specs.Task.{Task, AllSound}
 use Rattle.rules.specs.Demand.{horizon, due, Due, wait, Wait, fails, ceiling, work, closes, firstFail, span, blocker, judge, verdict}
 use Rattle.rules.specs.declared.Blocker.{Blocker}
@@ -120,19 +120,19 @@ work-grows (τ ∷ ts) s t h = omega (arith, mul-le-mul-left (τ .C) (ceiling-gr
 -- one task's due and wait, by cases on its D
 pub due-in : (L : ℕ) (τ : Task) → τ .D ≤ L → due L τ ≡ τ .C * (1 + (L - τ .D) / τ .T)
 unfolding due
-due-in L τ h = ap (λ (b : Bool). if b then τ .C * (1 + (L - τ .D) / τ .T) else 0) (le-leb _ _ h)
+due-in L τ h = rw (le-leb (τ .D) L h)
 
 pub due-out : (L : ℕ) (τ : Task) → L < τ .D → due L τ ≡ 0
 unfolding due
-due-out L τ h = ap (λ (b : Bool). if b then τ .C * (1 + (L - τ .D) / τ .T) else 0) (lt-leb _ _ h)
+due-out L τ h = rw (lt-leb (τ .D) L h)
 
 pub wait-out : (L : ℕ) (τ : Task) → τ .D ≤ L → wait L τ ≡ 0
 unfolding wait
-wait-out L τ h = ap (λ (b : Bool). if b then τ .C - 1 else 0) (le-ltb _ _ h)
+wait-out L τ h = rw (le-ltb L (τ .D) h)
 
 pub wait-in : (L : ℕ) (τ : Task) → L < τ .D → wait L τ ≡ τ .C - 1
 unfolding wait
-wait-in L τ h = ap (λ (b : Bool). if b then τ .C - 1 else 0) (lt-ltb _ _ h)
+wait-in L τ h = rw (lt-ltb L (τ .D) h)
 
 -- Due grows with the length, Wait falls
 due-grows : (K L : ℕ) (τ : Task) → K ≤ L → due K τ ≤ due L τ

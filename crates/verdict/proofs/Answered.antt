@@ -1,10 +1,9 @@
 -- What the call answers, and that its contract leaves one answer.
-use mathlib.Core.Path.{_≡_, refl, sym, ap, subst, _∙_}
+use mathlib.Core.Path.{_≡_, refl, sym, subst}
 use Prim.Native.Nat.{ℕ}
 use mathlib.Core.List.{List}
-use mathlib.Core.Option.{Option, none, some}
+use mathlib.Core.Option.{none, some}
 use Rattle.rules.specs.Task.{tasksOf}
-use Rattle.rules.specs.Refusals.{answering}
 use Rattle.rules.specs.Table.{tableRefusal}
 use Rattle.rules.specs.Demand.{verdict}
 use Rattle.rules.specs.Answers.{verdictAnswer}
@@ -15,16 +14,13 @@ use Rattle.promises.specs.Demands.{One, KeptBy}
 use Rattle.promises.proofs.Kept.{kept-by}
 
 module _ (w : List ℕ) where
-  by-refusal : Option Refusal → VerdictAnswer
-  by-refusal o = answering o VerdictAnswer.Refused (VerdictAnswer.Judged (verdict (tasksOf w)))
-
   pub judges : (v : Verdict) → tableRefusal w ≡ none → v ≡ verdict (tasksOf w) → VerdictAnswer.Judged v ≡ verdictAnswer w
-  unfolding verdictAnswer by-refusal
-  judges v e f = ap VerdictAnswer.Judged f ∙ sym (ap by-refusal e)
+  unfolding verdictAnswer
+  judges v e f = rw (e, f)
 
   pub refuses : (r : Refusal) → tableRefusal w ≡ some r → VerdictAnswer.Refused r ≡ verdictAnswer w
-  unfolding verdictAnswer by-refusal
-  refuses r e = sym (ap by-refusal e)
+  unfolding verdictAnswer
+  refuses r e = rw e
 
   -- it is kept
   pub keeps : (a : VerdictAnswer) → a ≡ verdictAnswer w → KeptBy w a

@@ -1,11 +1,11 @@
 -- The two searches from 1 to H: over the lengths one by one, over t by its work.
-use mathlib.Core.Path.{_≡_, sym, ap, ap₂, _∙_}
+use mathlib.Core.Path.{_≡_, sym}
 use mathlib.Core.Logic.{⊎-elim}
 use Prim.Native.Nat.{ℕ, _≤_, _<_}
 use native.Mathlib.Omega.{arith}
 use mathlib.Core.List.{List}
 use mathlib.Core.Bool.{Bool, true}
-use mathlib.Core.Option.{Option, none, some}
+use mathlib.Core.Option.{none, some}
 use borrow.Author.Tests.{ltb-true, leb-true, lt-leb}
 use Rattle.rules.specs.Choice.{least}
 use Rattle.rules.specs.Task.{Task}
@@ -36,12 +36,12 @@ none-closes ts t u before h y a b =
 module _ (ts : List Task) (f : Found) (first : answerOf f ≡ firstFail ts) where
   pub judged-misses : (L : ℕ) (b : Blocker) → f ≡ Found.At L → b ≡ blocker L ts → Verdict.Misses L b ≡ verdict ts
   unfolding verdict
-  judged-misses L b e q = ap (Verdict.Misses L) q ∙ ap (λ (o : Option ℕ). judge o (span ts) ts) (sym (ap answerOf e) ∙ first)
+  judged-misses L b e q = rw (← first, e, q)
 
   module _ (none-fails : f ≡ Found.Nowhere) (g : Found) (spans : answerOf g ≡ span ts) where
     judged-on : (h : Found) → g ≡ h → judge none (answerOf h) ts ≡ verdict ts
     unfolding verdict
-    judged-on h e = ap₂ (λ (o s : Option ℕ). judge o s ts) (sym (ap answerOf none-fails) ∙ first) (sym (ap answerOf e) ∙ spans)
+    judged-on h e = rw (← first, ← spans, none-fails, e)
 
     pub judged-meets : (σ : ℕ) → g ≡ Found.At σ → Verdict.Meets σ ≡ verdict ts
     judged-meets σ e = judged-on (Found.At σ) e

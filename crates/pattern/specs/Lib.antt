@@ -1,0 +1,2 @@
+-- Words of the contracts in this crate.
+pub mod Plans

@@ -14,7 +14,7 @@ use Rattle.rules.specs.Report.{setLines, setRest, reportRefusal, reportAnswer, 
 use Rattle.rules.specs.Calls.{Reports}
 use Rattle.rules.specs.declared.Refusal.{Refusal}
 use Rattle.rules.specs.declared.ReportAnswer.the-variants.{Reported, Refused}
-use Rattle.text.proofs.Round.{set-back}
+use Rattle.rules.proofs.SetTrips.{set-back}
 use Rattle.text.proofs.Callers.{shorter}
 use Rattle.report.specs.First.{firstAnswer}
 use Rattle.report.specs.Promises.{ReportsOne, PageIsEnough, Tells, ReportedTells, Run, last, more, RunIsOutput}

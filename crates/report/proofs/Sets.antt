@@ -17,7 +17,7 @@ use Rattle.rules.specs.declared.Refusal.the-variants.{NoWord, NotFours, TooMany
 use Rattle.rules.specs.declared.Blocker.{Blocker}
 use Rattle.rules.specs.declared.Verdict.{Verdict}
 use Rattle.rules.specs.declared.VerdictAnswer.{VerdictAnswer}
-use Rattle.lines.proofs.Digits.{digits-most}
+use Rattle.rules.proofs.Digits.{digits-most}
 use Rattle.lines.proofs.Putting.{line-length}
 use Rattle.text.proofs.Callers.{Took}
 use Rattle.report.specs.First.{firstAnswer, answerLines, linesOf, Judges}

@@ -1,0 +1,2 @@
+-- The number of the call, and that there is one.
+pub mod Numbers

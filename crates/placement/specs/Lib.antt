@@ -1,0 +1,2 @@
+-- What the call for C promises.
+pub mod Placement

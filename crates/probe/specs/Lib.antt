@@ -1,0 +1,2 @@
+-- What the probe tells.
+pub mod Probe

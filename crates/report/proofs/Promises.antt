@@ -17,12 +17,9 @@ use Rattle.rules.specs.declared.ReportAnswer.the-variants.{Reported, Refused}
 use Rattle.rules.proofs.SetTrips.{set-back}
 use Rattle.text.proofs.Callers.{shorter}
 use Rattle.report.specs.First.{firstAnswer}
-use Rattle.report.specs.Promises.{ReportsOne, PageIsEnough, Tells, ReportedTells, Run, last, more, RunIsOutput}
+use Rattle.report.specs.Promises.{PageIsEnough, Tells, ReportedTells, Run, last, more, RunIsOutput}
 use Rattle.report.proofs.Sets.{lines-are, lines-most}
 use Rattle.report.proofs.Reported.{room}
-
-pub reports-one : ReportsOne
-reports-one n text out a b e f p q = (p .says ∙ sym (q .says), p .leaves ∙ sym (q .leaves))
 
 -- what is left of a text is its end, and reading took a byte at least
 rest-is : (s used q : List ℕ) → s ≡ used ++ q → drop (length s - length q) s ≡ q

@@ -1,4 +1,4 @@
--- What follows from the report's promise: it leaves one outcome, a page is enough, and the reports of a run over the sets make up the
+-- What follows from the report's promise: a page is enough, and the reports of a run over the sets make up the
 -- program's output. Stated of whatever meets the record.
 use mathlib.Core.Path.{_≡_}
 use mathlib.Core.Logic.{_↔_}
@@ -9,10 +9,6 @@ use Rattle.rules.specs.Report.{inputMost, setLines, setRest, output}
 use Rattle.rules.specs.Calls.{Reports}
 use Rattle.rules.specs.declared.ReportAnswer.{ReportAnswer}
 use Rattle.rules.specs.declared.ReportAnswer.the-variants.{Reported}
-
--- two outcomes of one report are equal
-abbrev pub ReportsOne : Type 0
-ReportsOne = (n : ℕ) (text out : List ℕ) (a b : ReportAnswer) (e f : List ℕ) → Reports n text out a e → Reports n text out b f → (a ≡ b) × (e ≡ f)
 
 -- 128 bytes are enough for any set, so that a report into them is never refused
 abbrev pub PageIsEnough : Type 0

@@ -7,11 +7,7 @@ use crate::verdict::{judge, Verdict};
 
 /// The row count; the rows go to the start of the lent words.
 pub fn pattern(words: &[u32], rows: &mut [u64]) -> Result<usize, Refusal> {
-    let tasks = table::tasks(words)?;
-    let Verdict::Misses { length, blocker } = judge(&tasks) else {
-        return Err(Refusal::NotMisses);
-    };
-    let streams = named(&tasks, length, blocker);
+    let streams = streams(words)?;
     let count = row_count(&streams);
     if rows.len() < 4 * count {
         return Err(Refusal::ShortBuffer);
@@ -22,6 +18,19 @@ pub fn pattern(words: &[u32], rows: &mut [u64]) -> Result<usize, Refusal> {
         index += 1;
     });
     Ok(count)
+}
+
+/// The words that the full result takes, unless the table is refused or there is no pattern.
+pub fn words_needed(words: &[u32]) -> Result<usize, Refusal> {
+    Ok(4 * row_count(&streams(words)?))
+}
+
+fn streams(words: &[u32]) -> Result<Vec<Stream>, Refusal> {
+    let tasks = table::tasks(words)?;
+    match judge(&tasks) {
+        Verdict::Misses { length, blocker } => Ok(named(&tasks, length, blocker)),
+        _ => Err(Refusal::NotMisses),
+    }
 }
 
 /// The pattern's jobs. The blocker comes at 0 and puts all others off by one tick.

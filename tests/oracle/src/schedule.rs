@@ -20,17 +20,26 @@ pub struct Schedule {
 }
 
 pub fn schedule(words: &[u32], z: u32, rows: &mut [u64]) -> Result<Schedule, Refusal> {
-    let tasks = table::tasks(words)?;
-    let end = u64::from(z);
-    if end == 0 || end > HORIZON {
-        return Err(Refusal::EndTick);
-    }
-    let streams: Vec<Stream> = tasks.iter().map(|task| concrete(task, end)).collect();
+    let streams = streams(words, z)?;
     let count = row_count(&streams);
     if rows.len() < 4 * count {
         return Err(Refusal::ShortBuffer);
     }
     Ok(Schedule { rows: count, late: fill(&streams, rows) })
+}
+
+/// The words that the full result takes, unless the table or Z is refused.
+pub fn words_needed(words: &[u32], z: u32) -> Result<usize, Refusal> {
+    Ok(4 * row_count(&streams(words, z)?))
+}
+
+fn streams(words: &[u32], z: u32) -> Result<Vec<Stream>, Refusal> {
+    let tasks = table::tasks(words)?;
+    let end = u64::from(z);
+    if end == 0 || end > HORIZON {
+        return Err(Refusal::EndTick);
+    }
+    Ok(tasks.iter().map(|task| concrete(task, end)).collect())
 }
 
 /// The jobs of a task released before the end tick: R + q × T below Z.

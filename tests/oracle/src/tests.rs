@@ -239,7 +239,7 @@ impl Draw {
     }
 }
 
-/// The verdict as the paper words it, with the least L looked for below `most`.
+/// The verdict as the paper words it: every L, then every t, one by one.
 fn plain_verdict(tasks: &[Task]) -> Verdict {
     if let Some(length) = (1..=HORIZON).find(|&l| definitions::fails(tasks, l)) {
         return Verdict::Misses { length, blocker: definitions::blocker(tasks, length) };

@@ -53,7 +53,8 @@ static uint32_t lend_at(size_t offset, const char *text, size_t length)
 
 static void wrong(const char *name, size_t length, uint32_t wanted, uint32_t got)
 {
-    printf("caller: %s, %zu bytes: wanted %u, got %u\n", name, length, (unsigned)wanted, (unsigned)got);
+    printf("caller: %s, %zu bytes: ", name, length);
+    printf("wanted %u, got %u\n", (unsigned)wanted, (unsigned)got);
     exit(1);
 }
 

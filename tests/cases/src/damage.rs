@@ -108,7 +108,8 @@ pub fn apply(damage: Damage, random: &mut Random, text: &[u8]) -> Vec<u8> {
 
 /// Damage that is done to one line, any of them.
 fn on_a_line(damage: Damage, random: &mut Random, text: &[u8]) -> Vec<u8> {
-    let mut lines: Vec<Vec<u8>> = text.split_inclusive(|&byte| byte == b'\n').map(Vec::from).collect();
+    let mut lines: Vec<Vec<u8>> =
+        text.split_inclusive(|&byte| byte == b'\n').map(Vec::from).collect();
     let at = random.below(lines.len());
     let number = lines[at].iter().position(|&byte| byte == b'=').map_or(0, |place| place + 1);
     let end = lines[at].iter().position(|&byte| byte == b'\n').unwrap_or(lines[at].len());

@@ -46,7 +46,8 @@ impl<W: Word> Done<W> {
 
     fn first_difference(&self, wanted: &Done<W>) -> Option<String> {
         if self.number != wanted.number {
-            let outs = format!("out wanted {:?}, got {:?}", wanted.out.content(), self.out.content());
+            let outs =
+                format!("out wanted {:?}, got {:?}", wanted.out.content(), self.out.content());
             return Some(format!("number: wanted {}, got {}; {outs}", wanted.number, self.number));
         }
         if let Some(found) = self.out.first_difference(&wanted.out) {
@@ -123,11 +124,15 @@ impl Checker {
         ours: impl FnOnce(&mut [W], &mut [u64]) -> u32,
         theirs: impl FnOnce(&mut [W]) -> Answer,
     ) -> Result<Done<W>, Difference> {
-        let (out_length, salt) = (self.out_length(), self.random.next());
+        let (out_length, salt) = (self.out_length(), self.random.number());
         let done = Done::before(length, out_length, salt).ours(ours);
         let wanted = Done::before(length, out_length, salt).wanted(theirs);
         if let Some(found) = done.first_difference(&wanted) {
-            return Err(Difference { call, input: format!("{}; {}", input(), done.lengths()), found });
+            return Err(Difference {
+                call,
+                input: format!("{}; {}", input(), done.lengths()),
+                found,
+            });
         }
         self.tally.case(call, wanted.number);
         Ok(wanted)

@@ -27,7 +27,7 @@ pub fn read<'a>(text: &'a [u8], table: &mut [u32]) -> (Result<usize, Refusal>, &
 fn first_set(text: &[u8]) -> Result<(Vec<u32>, &[u8]), usize> {
     let (count, mut rest) = line(text, COUNT_KEY).ok_or(1usize)?;
     let count = count as usize;
-    if count < 1 || count > MOST_TASKS {
+    if !(1..=MOST_TASKS).contains(&count) {
         return Err(1);
     }
     let mut words = Vec::with_capacity(4 * count);
@@ -52,10 +52,7 @@ fn line<'a>(text: &'a [u8], key: &[u8]) -> Option<(u32, &'a [u8])> {
 
 /// How many decimal digits the text begins with; one more than allowed is enough to know.
 fn digits(text: &[u8]) -> usize {
-    text.iter()
-        .take(MOST_DIGITS + 1)
-        .take_while(|byte| byte.is_ascii_digit())
-        .count()
+    text.iter().take(MOST_DIGITS + 1).take_while(|byte| byte.is_ascii_digit()).count()
 }
 
 /// One to five digits, no leading zero except 0 itself.

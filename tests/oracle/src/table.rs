@@ -21,7 +21,7 @@ pub fn tasks(table: &[u32]) -> Result<Vec<Task>, Refusal> {
     if table.is_empty() {
         return Err(Refusal::NoWord);
     }
-    if table.len() % 4 != 0 {
+    if !table.len().is_multiple_of(4) {
         return Err(Refusal::NotFours);
     }
     if table.len() > MOST_WORDS {

@@ -244,8 +244,7 @@ fn plain_verdict(tasks: &[Task]) -> Verdict {
     if let Some(length) = (1..=HORIZON).find(|&l| definitions::fails(tasks, l)) {
         return Verdict::Misses { length, blocker: definitions::blocker(tasks, length) };
     }
-    definitions::span_up_to(tasks, HORIZON)
-        .map_or(Verdict::TooFar, |span| Verdict::Meets { span })
+    definitions::span_up_to(tasks, HORIZON).map_or(Verdict::TooFar, |span| Verdict::Meets { span })
 }
 
 #[test]

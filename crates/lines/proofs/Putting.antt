@@ -8,7 +8,7 @@ use lib.ListN.{length, take, drop, set, length-append, take-append-drop}
 use lib.Seq.{set-split, take-at, drop-at, drop-append-add, drop-drop, length-take-le, take-set-le, take-length, paste}
 use Rattle.rules.specs.Text.{line}
 use Rattle.lines.specs.Line.{put, Puts}
-use Rattle.lines.proofs.Digits.{lasts, lasts-length}
+use Rattle.rules.proofs.Digits.{lasts, lasts-length}
 
 pub put-nil : (l : List ℕ) (at : ℕ) → put l at [] ≡ l
 put-nil l at = let e : at + 0 ≡ at = omega arith in ap (λ (k : ℕ). take at l ++ drop k l) e ∙ take-append-drop at l

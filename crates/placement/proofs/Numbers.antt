@@ -1,4 +1,4 @@
--- The number of the call, by what its parts said; and that there is one.
+-- The number of the call, by what its parts said.
 use mathlib.Core.Path.{_≡_, refl, sym, ap, _∙_}
 use Prim.Native.Nat.{ℕ, _*_, _≤_}
 use mathlib.Core.List.{List, [], _∷_}
@@ -13,7 +13,6 @@ use Rattle.rules.specs.declared.Refusal.{Refusal}
 use Rattle.rules.specs.declared.ReadAnswer.{ReadAnswer}
 use Rattle.rules.specs.declared.VerdictAnswer.{VerdictAnswer}
 use Rattle.rules.specs.declared.VerdictAnswer.the-variants.{Judged, Refused}
-use Rattle.placement.specs.Placement.{ChecksOne}
 use Rattle.text.specs.Reader.{codeOf, answerOf, Returns}
 use Rattle.text.proofs.Callers.{Took, took-set, refused-set, roomy}
 
@@ -45,7 +44,3 @@ decided {exit = exit} {n = n} b t f g = ap numberIn (sym g ∙ f) ∙ rw (t .set
         → numberIn (answering o Refused (Judged (verdict (tasksOf ws)))) ≡ answering (firstOf (none ∷ o ∷ [])) numberOf (verdictNumber (verdict (tasksOf ws)))
     by-table ws none = refl
     by-table ws (some r) = refl
-
--- two outcomes of one call are equal
-pub checks-one : ChecksOne
-checks-one text m n e f = e ∙ sym f

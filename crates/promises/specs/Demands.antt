@@ -77,13 +77,10 @@ pub record PaperNumbers : Type 0 where
       → readSet text ≡ took words after → length words ≤ length table
       → (answer ≡ ReadAnswer.Set (length words / 4)) × (rest ≡ after) × Holds exit words table
 
--- writing then reading gives the numbers back; the crate text shows it
-abbrev pub WriteThenRead : Type 0
-WriteThenRead = (table after : List ℕ) → tableRefusal table ≡ none → readSet (writeSet table ++ after) ≡ took table after
-
--- reading an in-range set then writing gives the bytes back; the crate text shows it
-abbrev pub ReadThenWrite : Type 0
-ReadThenWrite = (text words after : List ℕ) → readSet text ≡ took words after → tableRefusal words ≡ none → writeSet words ++ after ≡ text
+-- writing then reading gives the numbers back, whatever follows; reading an in-range set then writing gives the bytes back
+pub record RoundTrips : Type 0 where
+  pub write-then-read : (table after : List ℕ) → tableRefusal table ≡ none → readSet (writeSet table ++ after) ≡ took table after
+  pub read-then-write : (text words after : List ℕ) → readSet text ≡ took words after → tableRefusal words ≡ none → writeSet words ++ after ≡ text
 
 -- 3. THE VERDICT IS TRUE OF EVERY ARRIVAL PATTERN. "Meets": no legal pattern, with run times from 1 to C, makes any job late.
 -- "Misses": the named pattern makes one late. "Too far" is given only on its condition.

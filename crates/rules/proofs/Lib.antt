@@ -22,3 +22,7 @@ pub mod Misses
 pub mod Least
 pub mod Search
 pub mod Verdicts
+pub mod Digits
+pub mod ReadSteps
+pub mod LineTrips
+pub mod SetTrips

@@ -3,20 +3,20 @@ use mathlib.Core.Path.{_≡_, refl, sym, ap, subst, _∙_}
 use Prim.Native.Nat.{ℕ, zero, suc, _+_, _*_, _/_, _%_, _≤_, _<_}
 use native.Mathlib.Nat.{add-zero, zero-add}
 use native.Mathlib.Omega.{arith}
-use mathlib.Core.List.{List, [], _∷_, List·Memᴰ, List·Memᴰ·head, List·Memᴰ·tail, List·Memᴰ·not-nil}
-use mathlib.Core.Bool.{Bool, true, false, not, _&&_}
+use mathlib.Core.List.{List, [], _∷_, List·Memᴰ·head, List·Memᴰ·tail, List·Memᴰ·not-nil}
+use mathlib.Core.Bool.{Bool, true, false, not}
 use mathlib.Core.Option.{Option, none, some}
 use lib.Dec.{leb, ltb, eqb}
 use lib.ListN.{length, getD, drop, drop-of-length-le}
 use lib.Seq.{drop-cons}
-use borrow.Author.Tests.{leb-true, leb-false, ltb-true, ltb-false, eqb-true, eqb-false, le-leb, le-ltb, eq-eqb, ne-eqb, not-false}
+use borrow.Author.Tests.{leb-true, ltb-false, eqb-true, eqb-false, ne-eqb, not-false}
 use Rattle.rules.specs.Choice.{if_then_else_}
-use Rattle.rules.specs.Task.{Task, tasksOf, taskAt, Sound, AllSound}
+use Rattle.rules.specs.Task.{Task, tasksOf, taskAt, AllSound}
 use Rattle.rules.specs.Refusals.{_when_, firstOf}
 use Rattle.rules.specs.Table.{wordMost, wordLeast, inRange, outOfRange, tableRefusal, taskIn, tasksFrom, Valid}
 use Rattle.rules.specs.declared.Refusal.{Refusal}
 use Rattle.rules.specs.declared.Refusal.the-variants.{NoWord, NotFours, TooManyWords, OutOfRange}
-use Rattle.rules.proofs.Tests.{both, both-true, true-is-not-false}
+use Rattle.rules.proofs.Tests.{both-true}
 
 -- a refusal is not none
 some-is-not-none : {A : Type 0} {r : Refusal} → _≡_ {A = Option Refusal} (some r) none → A

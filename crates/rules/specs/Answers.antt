@@ -98,11 +98,12 @@ verdictNumber (Verdict.Meets σ) = 100
 verdictNumber (Verdict.Misses L b) = 101
 verdictNumber Verdict.TooFar = 102
 
--- the values that each blocker and each verdict carry
+-- the value that a blocker carries: its task's number
 abbrev pub blockerValues : Blocker → List ℕ
 blockerValues (Blocker.Task k) = k ∷ []
 blockerValues Blocker.Nobody = []
 
+-- the values that each verdict carries: the span; the length and the blocker; nothing
 abbrev pub verdictValues : Verdict → List ℕ
 verdictValues (Verdict.Meets σ) = σ ∷ []
 verdictValues (Verdict.Misses L b) = L ∷ blockerValues b

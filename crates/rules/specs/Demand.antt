@@ -1,5 +1,5 @@
 -- The verdict over all arrivals. Document 01, "The verdict over all arrivals".
-use Prim.Native.Nat.{ℕ, zero, suc, _+_, _-_, _*_, _/_, max}
+use Prim.Native.Nat.{ℕ, suc, _+_, _-_, _*_, _/_, max}
 use mathlib.Core.List.{List, [], _∷_}
 use mathlib.Core.Bool.{Bool, _&&_}
 use mathlib.Core.Option.{Option, none, some}

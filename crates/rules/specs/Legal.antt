@@ -1,6 +1,6 @@
 -- Legal patterns. Document 01, "The verdict over all arrivals", first line.
 use mathlib.Core.Path.{_≡_}
-use Prim.Native.Nat.{ℕ, _+_, _-_, max, min, _≤_, _<_}
+use Prim.Native.Nat.{_+_, _-_, max, min, _≤_, _<_}
 use mathlib.Core.List.{List, [], _∷_, List·Memᴰ}
 use lib.ListN.{length}
 use Rattle.rules.specs.Task.{Task, taskAt}

@@ -1,5 +1,5 @@
 -- The outcome case by case, and that there is one only.
-use mathlib.Core.Path.{_≡_, sym, _∙_}
+use mathlib.Core.Path.{_≡_}
 use Prim.Native.Nat.{ℕ, _*_, _≤_, _<_}
 use native.Mathlib.Omega.{arith}
 use mathlib.Core.List.{List}
@@ -46,8 +46,3 @@ module _ (w : List ℕ) (z : ℕ) (out : List ℕ) where
             → 4 * length (scheduleRows w z) ≤ length out → Runs w f c out answer exit → Schedules w z out answer exit
         unfolding scheduleAnswer scheduleBuffer
         by-rows f c answer exit e h R = record { says = rw (fine h, ← e) (R .says); leaves = rw (fine h, ← e) (R .leaves) }
-
--- two outcomes that meet the contract for the same input are equal
-pub one-outcome : {w : List ℕ} {z : ℕ} {out : List ℕ} {a b : ScheduleAnswer} {x y : List ℕ} → Schedules w z out a x → Schedules w z out b y
-    → (a ≡ b) × (x ≡ y)
-one-outcome S R = (S .says ∙ sym (R .says), S .leaves ∙ sym (R .leaves))

@@ -17,7 +17,7 @@ use Rattle.rules.specs.declared.Refusal.{Refusal}
 use Rattle.rules.specs.declared.Refusal.the-variants.{TooShort}
 use Rattle.rules.specs.declared.ReadAnswer.{ReadAnswer}
 use Rattle.rules.specs.declared.ReadAnswer.the-variants.{Set, Refused}
-use Rattle.text.proofs.Round.{set-back}
+use Rattle.rules.proofs.SetTrips.{set-back}
 use Rattle.text.proofs.Writing.{set-length}
 
 -- a set of n tasks was read: its words stand at the start of the table

@@ -2,6 +2,5 @@
 mod Scanning
 mod Sets
 mod Writing
-pub mod Round
 pub mod Callers
 pub mod Promises

@@ -11,26 +11,28 @@ use Rattle.rules.specs.Refusals.{_when_, answering, lent}
 use Rattle.rules.specs.Table.{tableRefusal}
 use Rattle.rules.specs.Text.{took, readSet, writeSet}
 use Rattle.rules.specs.Answers.{writeRefusal, writeAnswer, writeBuffer}
-use Rattle.rules.specs.Calls.{Writes}
+use Rattle.rules.specs.Calls.{Reads, Writes}
 use Rattle.rules.specs.declared.Refusal.{Refusal}
 use Rattle.rules.specs.declared.Refusal.the-variants.{TooShort}
+use Rattle.rules.specs.declared.ReadAnswer.{ReadAnswer}
 use Rattle.rules.specs.declared.WriteAnswer.{WriteAnswer}
 use Rattle.rules.specs.declared.WriteAnswer.the-variants.{Written, Refused}
 use Rattle.rules.proofs.Tables.{valid-of, not-given}
-use Rattle.text.specs.Promises.{FineIsWritten, WrittenIsRead, ReadIsText, ReadIsWritten, ReadsOne, ReturnsOne, WritesOne}
+use Rattle.text.specs.Promises.{FineIsWritten, WrittenIsRead, ReadIsText, ReadIsWritten, ReturnsOne}
 use Rattle.text.proofs.Sets.{whole}
 use Rattle.text.proofs.Writing.{written}
-use Rattle.text.proofs.Round.{small-of, set-there, set-back}
+use Rattle.rules.proofs.SetTrips.{small-of, set-there, set-back}
 use Rattle.text.proofs.Callers.{took-set}
 
-pub reads-one : ReadsOne
+-- two outcomes that meet a record are equal
+reads-one : (text table : List ℕ) (a b : ReadAnswer) (r s e f : List ℕ) → Reads text table a r e → Reads text table b s f → (a ≡ b) × ((r ≡ s) × (e ≡ f))
 reads-one text table a b r s e f p q = (p .says ∙ sym (q .says), (p .hands-back ∙ sym (q .hands-back), p .leaves ∙ sym (q .leaves)))
 
 pub returns-one : ReturnsOne
 returns-one text table k l m n r s e f p q =
     (p .code-is ∙ sym (q .code-is), (p .number-is ∙ sym (q .number-is), reads-one text table _ _ r s e f (p .reads) (q .reads) .1))
 
-pub writes-one : WritesOne
+writes-one : (table out : List ℕ) (a b : WriteAnswer) (e f : List ℕ) → Writes table out a e → Writes table out b f → (a ≡ b) × (e ≡ f)
 writes-one table out a b e f p q = (p .says ∙ sym (q .says), p .leaves ∙ sym (q .leaves))
 
 pub fine-is-written : FineIsWritten

@@ -1,4 +1,4 @@
--- Reading and writing undo each other, and each leaves one outcome. Stated of whatever meets the calls' records.
+-- Reading and writing undo each other, and the reader's numbers leave one outcome too. Stated of whatever meets the calls' records.
 use mathlib.Core.Path.{_≡_}
 use Prim.Native.Nat.{ℕ, _*_, _/_, _≤_}
 use mathlib.Core.List.{List, _++_}
@@ -43,16 +43,7 @@ ReadIsWritten =
     → (out : List ℕ) (wrote : WriteAnswer) (exit : List ℕ) (k : ℕ) → Writes (take (4 * n) words) out wrote exit → wrote ≡ WriteAnswer.Written k
     → text ≡ take k exit ++ rest
 
--- two outcomes of one reading are equal
-abbrev pub ReadsOne : Type 0
-ReadsOne =
-    (text table : List ℕ) (a b : ReadAnswer) (r s e f : List ℕ) → Reads text table a r e → Reads text table b s f → (a ≡ b) × ((r ≡ s) × (e ≡ f))
-
--- and so are two of the reader that returns the rest
+-- two outcomes of the reader that returns the rest are equal, its two numbers too
 abbrev pub ReturnsOne : Type 0
 ReturnsOne =
     (text table : List ℕ) (k l m n : ℕ) (r s e f : List ℕ) → Returns text table k m r e → Returns text table l n s f → (k ≡ l) × ((m ≡ n) × ((r ≡ s) × (e ≡ f)))
-
--- two outcomes of one writing are equal
-abbrev pub WritesOne : Type 0
-WritesOne = (table out : List ℕ) (a b : WriteAnswer) (e f : List ℕ) → Writes table out a e → Writes table out b f → (a ≡ b) × (e ≡ f)

@@ -1,5 +1,5 @@
 use native.Mathlib.Omega.{arith}
-use Rattle.lines.proofs.Reading.{digit-range}
+use Rattle.rules.proofs.ReadSteps.{digit-range}
 use borrow.Author.Needs.{needs}
 use Rattle.lines.proofs.digit_value.Statement.{statement}
 use Rattle.lines.proofs.digit_value.Tie as tie

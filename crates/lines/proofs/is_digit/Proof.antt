@@ -1,5 +1,5 @@
 use mathlib.Core.Path.{sym}
-use Rattle.lines.proofs.Reading.{below-digits, above-digits, a-digit}
+use Rattle.rules.proofs.ReadSteps.{below-digits, above-digits, a-digit}
 use Rattle.lines.proofs.is_digit.Statement.{statement}
 use Rattle.lines.proofs.is_digit.Tie as tie
 

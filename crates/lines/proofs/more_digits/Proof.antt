@@ -3,7 +3,8 @@ use Prim.Native.Nat.{_-_, _^_, _≤_, _<_}
 use native.Mathlib.Omega.{arith}
 use borrow.Author.Tests.{not-true, not-false}
 use Rattle.rules.specs.Text.{moreDigits}
-use Rattle.lines.proofs.Reading.{part, more-none, more-other, more-step, more-end, room, room-step}
+use Rattle.rules.proofs.ReadSteps.{more-none, more-other, more-step, more-end}
+use Rattle.lines.proofs.Reading.{part, room, room-step}
 use borrow.Author.Needs.{needs}
 use Rattle.lines.proofs.more_digits.Statement.{statement}
 use Rattle.lines.proofs.more_digits.Tie as tie

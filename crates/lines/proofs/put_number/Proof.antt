@@ -4,7 +4,7 @@ use native.Mathlib.Omega.{arith}
 use lib.ListN.{length, length-set}
 use Rattle.rules.specs.Text.{digits}
 use Rattle.lines.specs.Line.{put}
-use Rattle.lines.proofs.Digits.{lasts, digits-lasts}
+use Rattle.rules.proofs.Digits.{lasts, digits-lasts}
 use Rattle.lines.proofs.Putting.{put-none, put-digit}
 use borrow.Author.Needs.{needs}
 use Rattle.lines.proofs.put_number.Statement.{statement}

@@ -6,7 +6,8 @@ use Rattle.rules.specs.Text.{got, lineEnd, readLine}
 use Rattle.lines.specs.Line.{seen}
 use Rattle.lines.specs.declared.Number.{Number}
 use Rattle.lines.specs.declared.Number.the-variants.{Wrong}
-use Rattle.lines.proofs.Reading.{part, value-is-not-wrong, line-no-key, line-then, end-bad, end-none, end-wrong, end-right}
+use Rattle.rules.proofs.ReadSteps.{end-bad, end-none, end-wrong, end-right}
+use Rattle.lines.proofs.Reading.{part, value-is-not-wrong, line-no-key, line-then}
 use Rattle.lines.proofs.read_line.Statement.{statement}
 use Rattle.lines.proofs.read_line.Tie as tie
 

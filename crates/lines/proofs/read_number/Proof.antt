@@ -4,7 +4,8 @@ use borrow.Author.Tests.{not-true, not-false}
 use mathlib.Core.Bool.{true}
 use lib.ListN.{getD}
 use Rattle.rules.specs.Text.{got, digit, moreDigits}
-use Rattle.lines.proofs.Reading.{part, value-is-not-wrong, digit-range, number-none, number-wrong, number-zero, number-more}
+use Rattle.rules.proofs.ReadSteps.{digit-range, number-none, number-wrong, number-zero, number-more}
+use Rattle.lines.proofs.Reading.{part, value-is-not-wrong}
 use borrow.Author.Needs.{needs}
 use Rattle.lines.proofs.read_number.Statement.{statement}
 use Rattle.lines.proofs.read_number.Tie as tie

@@ -4,7 +4,8 @@ use Prim.Native.Nat.{_+_, _-_, _≤_}
 use native.Mathlib.Omega.{arith}
 use lib.ListN.{length, drop}
 use Rattle.rules.specs.Text.{afterKey}
-use Rattle.lines.proofs.Reading.{part, key-none, key-wrong, key-step, key-end}
+use Rattle.rules.proofs.ReadSteps.{key-none, key-wrong, key-step, key-end}
+use Rattle.lines.proofs.Reading.{part}
 use borrow.Author.Needs.{needs}
 use Rattle.lines.proofs.skip_key.Statement.{statement}
 use Rattle.lines.proofs.skip_key.Tie as tie

@@ -3,7 +3,7 @@ use Prim.Native.Nat.{_+_, _^_, _≤_, _<_}
 use native.Mathlib.Omega.{arith}
 use lib.ListN.{length}
 use Rattle.rules.specs.Text.{digits}
-use Rattle.lines.proofs.Digits.{digits-most, digits-some, width-one, width-more}
+use Rattle.rules.proofs.Digits.{digits-most, digits-some, width-one, width-more}
 use borrow.Author.Needs.{needs}
 use Rattle.lines.proofs.width.Statement.{statement}
 use Rattle.lines.proofs.width.Tie as tie

@@ -7,10 +7,10 @@ use mathlib.Core.Bool.{Bool, true, false, _&&_}
 use lib.Dec.{leb}
 use lib.ListN.{length, getD}
 use borrow.Author.Tests.{leb-true, le-leb}
 use Rattle.rules.specs.Choice.{if_then_else_}
 use Rattle.rules.specs.Text.{Read, got, bad, Lines, took, stop, ahead, orStop, keyOf, tasksKey, readLine, readLines, readSet, digits, line, writeLines, writeSet}
 use Rattle.rules.proofs.Tests.{both-true}
-use Rattle.lines.proofs.Round.{line-there, line-back}
+use Rattle.rules.proofs.LineTrips.{line-there, line-back}
 
 -- words that a line can hold
 unfoldable pub Small : List ℕ → Type 0

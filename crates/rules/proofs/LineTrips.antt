@@ -9,10 +9,10 @@ use mathlib.Core.Bool.{Bool, true, false}
 use mathlib.Core.Option.{Option, none, some}
 use lib.Dec.{eqb}
 use borrow.Author.Tests.{eq-eqb, eqb-true, eqb-false}
 use Rattle.rules.specs.Choice.{if_then_else_}
 use Rattle.rules.specs.Text.{Read, got, bad, afterKey, digit, moreDigits, readNumber, lineEnd, numberLine, readLine, digits, line}
-use Rattle.lines.proofs.Digits.{digits-one, digits-more}
-use Rattle.lines.proofs.Reading.{below-digits, a-digit, digit-range, more-other, more-step, number-zero, number-more, end-right}
+use Rattle.rules.proofs.Digits.{digits-one, digits-more}
+use Rattle.rules.proofs.ReadSteps.{below-digits, a-digit, digit-range, more-other, more-step, number-zero, number-more, end-right}
 
 -- what was read before: the digits of a number below 100,000
 pub record Was (s : List ℕ) (w : ℕ) (rest : List ℕ) : Type 0 where

@@ -1,0 +1,89 @@
+//! Times the proved calls beside the oracle's on the same inputs, in the same run.
+//! A ratio says more than a time: it hardly depends on the machine.
+
+mod measure;
+mod report;
+mod sets;
+
+use boundary::LEAST_OUT;
+use measure::{measure, Pace};
+use report::Line;
+use sets::Set;
+use std::hint::black_box;
+
+const WORST_WORDS: usize = 4 * 64 * 100_000;
+
+fn main() {
+    report::head();
+    for set in sets::for_verdict() {
+        report::line(&verdict(&set));
+    }
+    let mut rows = vec![0; WORST_WORDS];
+    for (set, pace) in sets::for_schedule() {
+        report::line(&schedule(&set, pace, &mut rows));
+    }
+    for set in sets::for_text() {
+        report::line(&reader(&set));
+        report::line(&writer(&set));
+    }
+    report::foot();
+}
+
+fn verdict(set: &Set) -> Line {
+    let table = &set.table;
+    let ours = |_: &mut ()| u64::from(boundary::verdict(black_box(table), &mut [0; LEAST_OUT]));
+    let theirs = |_: &mut ()| match oracle::verdict(black_box(table)) {
+        Ok(oracle::Verdict::Meets { .. }) => 100,
+        Ok(oracle::Verdict::Misses { .. }) => 101,
+        Ok(oracle::Verdict::TooFar) => 102,
+        Err(refusal) => u64::from(refusal.number()),
+    };
+    let times = measure(Pace::Many, &mut (), |_| (), ours, theirs);
+    Line { call: "verdict", set: set.name, bytes: None, times }
+}
+
+/// The rows are cleared before every timed piece, so no page is touched for the first time in it.
+fn schedule(set: &Set, pace: Pace, rows: &mut Vec<u64>) -> Line {
+    let table = &set.table;
+    let ours = |rows: &mut Vec<u64>| {
+        let mut out = [0; LEAST_OUT];
+        boundary::schedule(black_box(table), 100_000, rows, &mut out);
+        out[0]
+    };
+    let theirs = |rows: &mut Vec<u64>| {
+        oracle::schedule(black_box(table), 100_000, rows).map_or(0, |schedule| schedule.rows as u64)
+    };
+    let words = oracle::schedule::words_needed(table, 100_000).expect("a table in range");
+    let clear = |rows: &mut Vec<u64>| rows[..words].fill(0);
+    let times = measure(pace, rows, clear, ours, theirs);
+    Line { call: "schedule", set: set.name, bytes: None, times }
+}
+
+fn reader(set: &Set) -> Line {
+    let text = oracle::writer::set_text(&set.table);
+    let ours = |table: &mut [u32; 256]| {
+        let mut out = [0; LEAST_OUT];
+        boundary::read(black_box(&text), table, &mut out);
+        out[0]
+    };
+    let theirs = |table: &mut [u32; 256]| {
+        oracle::read(black_box(&text), table).0.map_or(0, |tasks| tasks as u64)
+    };
+    let times = measure(Pace::Many, &mut [0; 256], |table| table.fill(0), ours, theirs);
+    Line { call: "reader", set: set.name, bytes: Some(text.len()), times }
+}
+
+fn writer(set: &Set) -> Line {
+    let table = &set.table;
+    let ours = |text: &mut [u8; 4096]| {
+        let mut out = [0; LEAST_OUT];
+        boundary::write(black_box(table), text, &mut out);
+        out[0]
+    };
+    let theirs = |text: &mut [u8; 4096]| {
+        oracle::write(black_box(table), text).map_or(0, |length| length as u64)
+    };
+    let times = measure(Pace::Many, &mut [0; 4096], |text| text.fill(0), ours, theirs);
+    let length = oracle::writer::set_text(table).len();
+    Line { call: "writer", set: set.name, bytes: Some(length), times }
+}

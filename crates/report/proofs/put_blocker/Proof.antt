@@ -1,0 +1,60 @@
+use borrow.Author.Needs.{needs}
+use Rattle.report.proofs.put_blocker.Statement.{statement}
+use Rattle.report.proofs.put_blocker.Tie as tie
+
+enum-known-blocker : tie.Need-enum-known-blocker
+enum-known-blocker c = search needs
+
+slice-aggregate-put-line : tie.Need-slice-aggregate-put-line
+slice-aggregate-put-line c = search needs
+
+put-line-requires : tie.Need-put-line-requires
+put-line-requires c κs =
+    let s = c .before .before .before in
+    rw (s .blocker .given .1) at (s .before .before .before .pre)
+
+enum-told : tie.Need-enum-told
+enum-told c = search needs
+
+slice-aggregate-put-word-line : tie.Need-slice-aggregate-put-word-line
+slice-aggregate-put-word-line c = search needs
+
+slice-aggregate-put-word-line-2 : tie.Need-slice-aggregate-put-word-line-2
+slice-aggregate-put-word-line-2 c = search needs
+
+put-word-line-requires : tie.Need-put-word-line-requires
+put-word-line-requires c κs =
+    let s = c .before .before .before in
+    rw (s .enum-told .given .1) at (s .before .before .before .pre)
+
+same-length : tie.Need-same-length
+same-length c = search needs
+
+returns : tie.Need-returns
+returns c =
+    let p = c .before .before in
+    rw (p .before .before .before .before .blocker .given .1) (p .put-line .ensures)
+
+same-length-2 : tie.Need-same-length-2
+same-length-2 c = search needs
+
+returns-2 : tie.Need-returns-2
+returns-2 c =
+    let p = c .before .before in
+    rw (p .before .before .before .before .enum-told .given .1) (p .put-word-line .ensures)
+
+pub put-blocker-spec : {M : Type 1} → statement M
+put-blocker-spec =
+    tie.close
+    (tie.spec
+    enum-known-blocker
+    slice-aggregate-put-line
+    put-line-requires
+    enum-told
+    slice-aggregate-put-word-line
+    slice-aggregate-put-word-line-2
+    put-word-line-requires
+    same-length
+    returns
+    same-length-2
+    returns-2)

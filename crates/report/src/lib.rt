@@ -1,0 +1,146 @@
+// The report of one set: the lines that the program prints for the first set of a text.
+ghost use Prim.Native.Nat.{_+_, _≤_};
+ghost use lib.ListN.{length};
+ghost use Rattle.rules.specs.Text.{bytes, line};
+ghost use Rattle.rules.specs.Report.{blockerWord, verdictLines, carriedLine, refusalLines};
+ghost use Rattle.rules.specs.Calls.{Reports};
+ghost use Rattle.lines.specs.Line.{Puts};
+ghost use Rattle.report.specs.First.{answerLines, linesOf, Judges};
+use rules::Blocker;
+use rules::ReadAnswer;
+use rules::Refusal;
+use rules::ReportAnswer;
+use rules::Verdict;
+use rules::VerdictAnswer;
+
+// What is found of the first set: the verdict or the refusal, and how many bytes are left to read.
+struct First {
+    answer: VerdictAnswer,
+    left: usize,
+}
+
+// The blocker's line is put at a place.
+fn put_blocker(out: &mut [u8], at: usize, blocker: Blocker) -> usize
+    requires { ⌜ at + length (line (bytes "blocker=") (blockerWord blocker)) ≤ length (now out) ⌝ }
+    ensures { λ r. ⌜ Puts (now (out .entry)) at (line (bytes "blocker=") (blockerWord blocker)) r (now (out .exit)) ⌝ }
+{
+    match blocker {
+        Blocker::Task(k) => lines::put_line(out, at, b"blocker=", k),
+        Blocker::Nobody => lines::put_word_line(out, at, b"blocker=", b"none"),
+    }
+}
+
+// The lines of a "meets" are put at a place.
+fn put_meets(out: &mut [u8], at: usize, span: u32) -> usize
+    requires { ⌜ at + length (verdictLines (Verdict.Meets span)) ≤ length (now out) ⌝ }
+    ensures { λ r. ⌜ Puts (now (out .entry)) at (verdictLines (Verdict.Meets span)) r (now (out .exit)) ⌝ }
+{
+    let a = lines::put_word_line(out, at, b"verdict=", b"meets");
+    lines::put_line(out, a, b"span=", span)
+}
+
+// The lines of a "misses" are put at a place.
+fn put_misses(out: &mut [u8], at: usize, least: u32, blocker: Blocker) -> usize
+    requires { ⌜ at + length (verdictLines (Verdict.Misses least blocker)) ≤ length (now out) ⌝ }
+    ensures { λ r. ⌜ Puts (now (out .entry)) at (verdictLines (Verdict.Misses least blocker)) r (now (out .exit)) ⌝ }
+{
+    let a = lines::put_word_line(out, at, b"verdict=", b"misses");
+    let b = lines::put_line(out, a, b"length=", least);
+    put_blocker(out, b, blocker)
+}
+
+// A verdict's lines are put at a place.
+fn put_verdict(out: &mut [u8], at: usize, verdict: Verdict) -> usize
+    requires { ⌜ at + length (verdictLines verdict) ≤ length (now out) ⌝ }
+    ensures { λ r. ⌜ Puts (now (out .entry)) at (verdictLines verdict) r (now (out .exit)) ⌝ }
+{
+    match verdict {
+        Verdict::Meets(span) => put_meets(out, at, span),
+        Verdict::Misses(least, blocker) => put_misses(out, at, least, blocker),
+        Verdict::TooFar => lines::put_word_line(out, at, b"verdict=", b"toofar"),
+    }
+}
+
+// The line of what a refusal carries is put at a place.
+fn put_carried(out: &mut [u8], at: usize, refusal: Refusal) -> usize
+    requires { ⌜ at + length (carriedLine refusal) ≤ length (now out) ⌝ }
+    ensures { λ r. ⌜ Puts (now (out .entry)) at (carriedLine refusal) r (now (out .exit)) ⌝ }
+{
+    match refusal {
+        Refusal::OutOfRange(i) => lines::put_line(out, at, b"word=", i),
+        Refusal::BadLine(l) => lines::put_line(out, at, b"line=", l),
+        _ => at,
+    }
+}
+
+// A refusal's lines are put at a place.
+fn put_refusal(out: &mut [u8], at: usize, refusal: Refusal) -> usize
+    requires { ⌜ at + length (refusalLines refusal) ≤ length (now out) ⌝ }
+    ensures { λ r. ⌜ Puts (now (out .entry)) at (refusalLines refusal) r (now (out .exit)) ⌝ }
+{
+    let number = numbers::refusal_number(refusal);
+    let a = lines::put_line(out, at, b"refused=", number);
+    put_carried(out, a, refusal)
+}
+
+// An answer's lines are put at a place.
+fn put_answer(out: &mut [u8], at: usize, answer: VerdictAnswer) -> usize
+    requires { ⌜ at + length (answerLines answer) ≤ length (now out) ⌝ }
+    ensures { λ r. ⌜ Puts (now (out .entry)) at (answerLines answer) r (now (out .exit)) ⌝ }
+{
+    match answer {
+        VerdictAnswer::Judged(verdict) => put_verdict(out, at, verdict),
+        VerdictAnswer::Refused(refusal) => put_refusal(out, at, refusal),
+    }
+}
+
+// The lines of a set with an answer are put at the start.
+fn put_set(out: &mut [u8], number: u32, answer: VerdictAnswer) -> usize
+    requires { ⌜ length (linesOf number answer) ≤ length (now out) ⌝ }
+    ensures { λ r. ⌜ Puts (now (out .entry)) 0 (linesOf number answer) r (now (out .exit)) ⌝ }
+{
+    let a = lines::put_line(out, 0, b"set=", number);
+    put_answer(out, a, answer)
+}
+
+// The first set of a text is judged. A table of 256 words has room for any set, so the reader refuses by 7 alone.
+fn judge_first(text: &[u8]) -> First
+    ensures { λ r. ⌜ Judges (now (text .entry)) r ⌝ }
+{
+    let mut table = [0u32; 256];
+    let mut code: u32 = 0;
+    let mut number: u32 = 0;
+    let rest = text::read(text, &mut table, &mut code, &mut number);
+    let answer = text::read_answer(code, number);
+    let ReadAnswer::Set(n) = answer else {
+        return First {
+            answer: VerdictAnswer::Refused(Refusal::BadLine(number)),
+            left: 0,
+        };
+    };
+    let m = 4 * n as usize;
+    First {
+        answer: verdict::verdict(&table[..m]),
+        left: rest.len(),
+    }
+}
+
+// THE REPORT. The lines for the first set of a text, as set of that number, go to the start of out. The answer is their length, and how many
+// bytes of the text are left to read.
+pub fn report(number: u32, text: &[u8], out: &mut [u8]) -> ReportAnswer
+    ensures { λ r. ⌜ Reports number (now (text .entry)) (now (out .entry)) r (now (out .exit)) ⌝ }
+{
+    let first = judge_first(text);
+    let answer = first.answer;
+    let left = first.left;
+    let mut page = [0u8; 128];
+    let length = put_set(&mut page, number, answer);
+    if out.len() < length {
+        return ReportAnswer::Refused(Refusal::TooShort);
+    }
+    lines::put_bytes(out, 0, &page[..length]);
+    ReportAnswer::Reported {
+        length: length as u32,
+        left,
+    }
+}

@@ -1,0 +1,2 @@
+-- What the calls of the program promise to each other.
+pub mod Input

@@ -1,0 +1,29 @@
+//! An independent implementation of the paper "Scope of work and exact rules".
+//!
+//! It is written from that paper alone and shares nothing with the proved code.
+//! Every call lends its buffers as the proved calls do: what is not written stays the same,
+//! and a refusal leaves everything as it was.
+
+pub mod call;
+pub mod definitions;
+pub mod dispatch;
+pub mod pattern;
+pub mod program;
+pub mod reader;
+pub mod refusal;
+pub mod schedule;
+pub mod table;
+pub mod verdict;
+pub mod writer;
+
+pub use call::tile_check;
+pub use pattern::pattern;
+pub use reader::read;
+pub use refusal::Refusal;
+pub use schedule::{schedule, Late, Schedule};
+pub use table::{Task, HORIZON, LARGEST, MOST_TASKS};
+pub use verdict::{verdict, Verdict};
+pub use writer::write;
+
+#[cfg(test)]
+mod tests;

@@ -10,6 +10,7 @@ use Rattle.rules.specs.Legal.{Legal}
 use Rattle.rules.specs.Demand.{Due, fails, closes}
 use Rattle.promises.specs.Demands.{InTime, MakesLate, Least}
 
+-- the facts that later work leans on
 pub record Sharper (ts : List Task) : Type 0 where
   -- a span that closes, and no length below it that fails, are enough for a "meets"
   pub below-the-span : (σ : ℕ) → 1 ≤ σ → closes σ ts ≡ true → ((L : ℕ) → 1 ≤ L → L < σ → fails L ts ≡ false)

@@ -1,28 +1,34 @@
 -- Laws about the definitions.
-pub mod Members
-pub mod Dispatcher
-pub mod Determined
-pub mod Blockers
-pub mod LateJob
+-- tests, searches, tables and refusals
+pub mod Tests
+pub mod Search
+pub mod Tables
 pub mod Refused
 pub mod RefusedCalls
-pub mod Stars
-pub mod Tests
-pub mod Tables
+-- the dispatcher: what it picks, its runs, its rules, and that they leave one list of rows
 pub mod Taken
 pub mod Legal
 pub mod Picked
 pub mod Runs
+pub mod Dispatcher
+pub mod Determined
+pub mod LateJob
+-- trains of jobs, and the blocker
 pub mod Rest
 pub mod Trains
+pub mod Members
+pub mod Blockers
+-- demand 3: the verdict's three lines, meets, misses, the least length
+pub mod Verdicts
 pub mod Count
 pub mod Meets
 pub mod Late
 pub mod Misses
 pub mod Least
-pub mod Search
-pub mod Verdicts
+-- the text, read and written
 pub mod Digits
 pub mod ReadSteps
 pub mod LineTrips
 pub mod SetTrips
+-- the starred sets
+pub mod Stars

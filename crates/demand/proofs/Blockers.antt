@@ -8,12 +8,11 @@ use mathlib.Core.Bool.{Bool, true, false, _&&_}
 use lib.Dec.{ltb, eqb}
 use borrow.Author.Tests.{ltb-true, leb-true, lt-ltb, le-ltb, eq-eqb, ne-eqb}
 use Rattle.rules.specs.Task.{Task, tasksOf}
-use Rattle.rules.specs.Table.{taskIn}
+use Rattle.rules.specs.Table.{taskIn, taskCount, ValidTable}
 use Rattle.rules.specs.Demand.{wait, Wait, firstWaiting, blocker}
 use Rattle.rules.specs.declared.Blocker.{Blocker}
 use Rattle.rules.proofs.Tests.{both, lt-or-ge}
 use Rattle.rules.proofs.Verdicts.{wait-in, wait-out}
-use Rattle.demand.specs.Parts.{taskCount, ValidTable}
 use Rattle.demand.proofs.Tasks.{tasksLeft, left-none, left-more, left-all}
 
 -- most is the greatest wait of the tasks, numbered from k on, and task the first that has it

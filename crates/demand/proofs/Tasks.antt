@@ -5,10 +5,10 @@ use native.Mathlib.Omega.{arith}
 use mathlib.Core.List.{List, [], _∷_}
 use lib.ListN.{getD}
 use Rattle.rules.specs.Task.{Task, tasksOf}
-use Rattle.rules.specs.Table.{taskIn, tasksFrom}
+use Rattle.rules.specs.Table.{taskIn, tasksFrom, taskCount, ValidTable}
 use Rattle.rules.specs.Demand.{due, Due, wait, Wait, work}
 use Rattle.rules.proofs.Tables.{tasks-are}
-use Rattle.demand.specs.Parts.{taskCount, ValidTable, taskOf, Ranged, workOf}
+use Rattle.demand.specs.Parts.{taskOf, Ranged, workOf}
 use Rattle.demand.specs.declared.Words.{Words}
 
 -- the tasks from number i on

@@ -1,21 +1,11 @@
 -- What the parts of the look promise each other.
 use mathlib.Core.Path.{_≡_}
-use Prim.Native.Nat.{ℕ, _*_, _/_, _≤_, _<_, _^_}
+use Prim.Native.Nat.{ℕ, _*_, _≤_, _<_, _^_}
 use mathlib.Core.List.{List}
-use lib.ListN.{length}
 use Rattle.rules.specs.Task.{Task}
-use Rattle.rules.specs.Table.{Valid}
 use Rattle.rules.specs.Demand.{Due, Wait, ceiling}
 use Rattle.demand.specs.declared.Words.{Words}
 use Rattle.demand.specs.declared.Demand.{Demand}
-
--- how many tasks a table has
-abbrev pub taskCount : List ℕ → ℕ
-taskCount w = length w / 4
-
--- a table that is not refused
-abbrev pub ValidTable : List ℕ → Type 0
-ValidTable w = Valid w (taskCount w)
 
 -- the task of four words
 abbrev pub taskOf : Words → Task

@@ -1,13 +1,14 @@
 // What is worked out for a length: what is due and what is waited for, the blocker, the work.
 ghost use mathlib.Core.Path.{_≡_};
-ghost use Prim.Native.Nat.{_+_, _*_, _≤_, _<_, _^_, max};
+ghost use Prim.Native.Nat.{_+_, _*_, _≤_, _<_, _^_};
 ghost use lib.ListN.{length};
 ghost use Rattle.rules.specs.Task.{tasksOf};
-ghost use Rattle.rules.specs.Table.{taskIn};
+ghost use Rattle.rules.specs.Table.{taskIn, ValidTable};
 ghost use Rattle.rules.specs.Jobs.{countWithin};
 ghost use Rattle.rules.specs.Demand.{due, wait, fails, blocker, work};
-ghost use Rattle.demand.specs.Parts.{ValidTable, taskOf, Ranged, Demands, workOf};
+ghost use Rattle.demand.specs.Parts.{taskOf, Ranged, Demands, workOf};
 use rules::Blocker;
+use table::greater;
 use table::wide;
 
 // The four words of a task.
@@ -22,12 +23,6 @@ pub struct Words {
 pub struct Demand {
     pub due: u64,
     pub wait: u64,
-}
-
-fn greater(a: u64, b: u64) -> u64
-    ensures { λ r. ⌜ r ≡ max a b ⌝ }
-{
-    if a < b { b } else { a }
 }
 
 // The words of task i.

@@ -1,12 +1,13 @@
 // The dispatcher on counters: of each task a train of jobs, given by its first release and how many there are.
 ghost use mathlib.Core.Path.{_≡_};
 ghost use mathlib.Core.List.{_∷_, _++_};
-ghost use Prim.Native.Nat.{_+_, _*_, _/_, _^_, _<_, _≤_, max};
+ghost use Prim.Native.Nat.{_+_, _*_, _/_, _^_, _<_, _≤_};
 ghost use lib.ListN.{length, take, drop};
-ghost use Rattle.rules.specs.Table.{Valid};
+ghost use Rattle.rules.specs.Table.{Valid, ValidTable};
 ghost use Rattle.dispatch.specs.Plan.{plannedRows, Counts, Runs};
 ghost use Rattle.dispatch.specs.Counters.{releaseAt, restFrom, Chosen, Best, noting, answered};
 use rules::ScheduleAnswer;
+use table::greater;
 use table::wide;
 
 // The next job to start: its task, its start and its deadline.
@@ -20,13 +21,6 @@ struct Turn {
 enum Lateness {
     OnTime,
     Late { task: u64, job: u64, deadline: u64 },
-}
-
-// The later of two ticks.
-fn later(a: u64, b: u64) -> u64
-    ensures { λ r. ⌜ r ≡ max a b ⌝ }
-{
-    if a < b { b } else { a }
 }
 
 // When job q of task i is released.
@@ -64,7 +58,7 @@ fn consider(
     }
     let r = release(table, first, m, i, q);
     let due = r + wide(table[4 * i + 1]);
-    let start = later(t, r);
+    let start = greater(t, r);
     if best.start < start {
         return best;
     }
@@ -173,7 +167,7 @@ fn answer(n: u64, late: Lateness) -> ScheduleAnswer
 
 // How many rows there will be: one for each job.
 pub fn total_jobs(table: &[u32], count: &[u32; 64]) -> u64
-    requires { ⌜ Valid (now table) (length (now table) / 4) ⌝ }
+    requires { ⌜ ValidTable (now table) ⌝ }
     ensures { λ r. ⌜ Counts (now (table .entry)) (now (count .entry)) r ⌝ }
 {
     let m = table.len() / 4;
@@ -188,7 +182,7 @@ pub fn total_jobs(table: &[u32], count: &[u32; 64]) -> u64
 
 // Writes the rows of the trains, four words a row, and says whether all were on time.
 pub fn run(table: &[u32], first: &[u32; 64], count: &[u32; 64], rows: &mut [u64]) -> ScheduleAnswer
-    requires { ⌜ Valid (now table) (length (now table) / 4) ⌝ }
+    requires { ⌜ ValidTable (now table) ⌝ }
     requires { ⌜ 4 * length (plannedRows (now table) (now first) (now count)) ≤ length (now rows) ⌝ }
     ensures { λ r. ⌜ Runs (now (table .entry)) (now (first .entry)) (now (count .entry)) (now (rows .entry)) r (now (rows .exit)) ⌝ }
 {

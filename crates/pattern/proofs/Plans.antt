@@ -10,14 +10,13 @@ use lib.Seq.{getD-set-same, getD-set-other}
 use borrow.Author.Tests.{eqb-true, eqb-false}
 use Rattle.rules.specs.Choice.{if_then_else_}
 use Rattle.rules.specs.Task.{Task, tasksOf}
-use Rattle.rules.specs.Table.{taskIn}
+use Rattle.rules.specs.Table.{taskIn, taskCount, ValidTable}
 use Rattle.rules.specs.Dispatch.{dispatch}
 use Rattle.rules.specs.Jobs.{countWithin, namedTrain, named}
 use Rattle.rules.specs.Demand.{blocker}
 use Rattle.rules.specs.declared.Blocker.{Blocker}
 use Rattle.rules.proofs.Tables.{length-tasks}
 use Rattle.rules.proofs.Blockers.{blocker-task}
-use Rattle.demand.specs.Parts.{taskCount, ValidTable}
 use Rattle.dispatch.specs.Plan.{planned, Filled, plannedRows}
 use Rattle.dispatch.proofs.Trains.{rows-of-plan}
 use Rattle.pattern.specs.Plans.{dueAt}

@@ -4,7 +4,7 @@ ghost use Rattle.rules.specs.Task.{tasksOf};
 ghost use Rattle.rules.specs.Dispatch.{dispatch};
 ghost use Rattle.rules.specs.Jobs.{named};
 ghost use Rattle.rules.specs.Calls.{Shows};
-ghost use Rattle.demand.specs.Parts.{taskCount, ValidTable};
+ghost use Rattle.rules.specs.Table.{taskCount, ValidTable};
 ghost use Rattle.dispatch.specs.Plan.{Filled, plannedRows};
 ghost use Rattle.pattern.specs.Plans.{dueAt, ShowsRows, OneLate};
 use demand::blocker_at;

@@ -1,6 +1,6 @@
 -- Which tables are refused. Document 01, "What the check covers" (ranges) and "Refusal numbers" 1 to 4.
 use mathlib.Core.Path.{_≡_}
-use Prim.Native.Nat.{ℕ, zero, suc, _+_, _*_, _%_, _≤_, _<_}
+use Prim.Native.Nat.{ℕ, zero, suc, _+_, _*_, _/_, _%_, _≤_, _<_}
 use mathlib.Core.List.{List, [], _∷_}
 use mathlib.Core.Bool.{Bool, not, _&&_}
 use mathlib.Core.Option.{Option, none, some}
@@ -62,3 +62,11 @@ pub record Valid (w : List ℕ) (m : ℕ) : Type 0 where
   pub D-low : (i : ℕ) → i < m → 1 ≤ getD w (4 * i + 1) 0
   pub T-low : (i : ℕ) → i < m → 1 ≤ getD w (4 * i + 2) 0
   pub high : (i : ℕ) → i < 4 * m → getD w i 0 ≤ 65535
+
+-- how many tasks a table has
+abbrev pub taskCount : List ℕ → ℕ
+taskCount w = length w / 4
+
+-- a table that is not refused, by those bounds
+abbrev pub ValidTable : List ℕ → Type 0
+ValidTable w = Valid w (taskCount w)

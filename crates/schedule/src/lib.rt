@@ -2,7 +2,7 @@
 ghost use mathlib.Core.Path.{_≡_};
 ghost use Prim.Native.Nat.{_/_, _<_};
 ghost use lib.ListN.{length};
-ghost use Rattle.rules.specs.Table.{Valid};
+ghost use Rattle.rules.specs.Table.{ValidTable};
 ghost use Rattle.rules.specs.Calls.{Schedules};
 ghost use Rattle.dispatch.specs.Plan.{Filled};
 ghost use Rattle.schedule.specs.Arrays.{firstAt, countAt};
@@ -12,7 +12,7 @@ use rules::TableAnswer;
 
 // The first release of each task.
 fn firsts(table: &[u32]) -> [u32; 64]
-    requires { ⌜ Valid (now table) (length (now table) / 4) ⌝ }
+    requires { ⌜ ValidTable (now table) ⌝ }
     ensures { λ r. ⌜ Filled (firstAt (now (table .entry))) (length (now (table .entry)) / 4) r ⌝ }
 {
     let m = table.len() / 4;
@@ -27,7 +27,7 @@ fn firsts(table: &[u32]) -> [u32; 64]
 
 // How many jobs of task i are released before tick z.
 fn count_before(table: &[u32], z: u32, i: usize) -> u32
-    requires { ⌜ Valid (now table) (length (now table) / 4) ⌝ }
+    requires { ⌜ ValidTable (now table) ⌝ }
     requires { ⌜ i < length (now table) / 4 ⌝ }
     ensures { λ r. ⌜ r ≡ countAt (now (table .entry)) z i ⌝ }
 {
@@ -38,7 +38,7 @@ fn count_before(table: &[u32], z: u32, i: usize) -> u32
 
 // That of each task.
 fn befores(table: &[u32], z: u32) -> [u32; 64]
-    requires { ⌜ Valid (now table) (length (now table) / 4) ⌝ }
+    requires { ⌜ ValidTable (now table) ⌝ }
     ensures { λ r. ⌜ Filled (countAt (now (table .entry)) z) (length (now (table .entry)) / 4) r ⌝ }
 {
     let m = table.len() / 4;

@@ -1,6 +1,6 @@
-// Whether a table is one: refusals 1 to 4. And a word as a wide number, for the crates above.
+// Whether a table is one: refusals 1 to 4. And wide numbers, for the crates above.
 ghost use mathlib.Core.Path.{_≡_};
-ghost use Prim.Native.Nat.{_≤_, _<_, _^_};
+ghost use Prim.Native.Nat.{_≤_, _<_, _^_, max};
 ghost use lib.ListN.{length};
 ghost use Rattle.rules.specs.Refusals.{answering};
 ghost use Rattle.rules.specs.Table.{wordLeast, inRange, outOfRange, tableAnswer};
@@ -12,6 +12,13 @@ pub fn wide(x: u32) -> u64
     ensures { λ r. ⌜ (r ≡ x) × (r < 2 ^ 32) ⌝ }
 {
     x as u64
+}
+
+// The greater of two wide numbers.
+pub fn greater(a: u64, b: u64) -> u64
+    ensures { λ r. ⌜ r ≡ max a b ⌝ }
+{
+    if a < b { b } else { a }
 }
 
 // The least value of the word at an index: R may be 0.

@@ -4,7 +4,7 @@ ghost use Rattle.rules.specs.Task.{tasksOf};
 ghost use Rattle.rules.specs.Demand.{firstFail, span, verdict};
 ghost use Rattle.rules.specs.Answers.{verdictAnswer};
 ghost use Rattle.promises.specs.Demands.{KeptBy};
-ghost use Rattle.demand.specs.Parts.{ValidTable};
+ghost use Rattle.rules.specs.Table.{ValidTable};
 ghost use Rattle.verdict.specs.Searches.{answerOf};
 use demand::blocker_at;
 use demand::fails_at;

@@ -5,7 +5,7 @@ use borrow.Author.Needs.{needs}
 use denote.Ref.{now}
 use Rattle.rules.specs.Task.{tasksOf}
 use Rattle.rules.specs.Demand.{wait}
-use Rattle.demand.specs.Parts.{taskCount}
+use Rattle.rules.specs.Table.{taskCount}
 use Rattle.demand.proofs.Tasks.{tasksLeft, words-ranged}
 use Rattle.demand.proofs.Blockers.{Holds, holds-none, holds-all, holds-new, holds-on, blocks, blocks-not}
 use Rattle.demand.proofs.blocker_at.Statement.{statement}

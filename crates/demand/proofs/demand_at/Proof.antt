@@ -3,7 +3,8 @@ use Prim.Native.Nat.{_-_, _*_, _^_, _≤_, _<_}
 use native.Mathlib.Omega.{arith}
 use borrow.Author.Needs.{needs}
 use Rattle.rules.specs.Demand.{due, Due, wait, Wait}
-use Rattle.demand.specs.Parts.{taskCount, Ranged}
+use Rattle.demand.specs.Parts.{Ranged}
+use Rattle.rules.specs.Table.{taskCount}
 use Rattle.demand.proofs.Tasks.{tasksLeft, left-none, left-all, due-more, wait-more, words-ranged}
 use Rattle.demand.proofs.demand_at.Statement.{statement}
 use Rattle.demand.proofs.demand_at.Tie as tie

@@ -3,7 +3,8 @@ use Prim.Native.Nat.{_-_, _*_, _^_, _≤_}
 use native.Mathlib.Omega.{arith}
 use borrow.Author.Needs.{needs}
 use Rattle.rules.specs.Demand.{work}
-use Rattle.demand.specs.Parts.{taskCount, workOf}
+use Rattle.demand.specs.Parts.{workOf}
+use Rattle.rules.specs.Table.{taskCount}
 use Rattle.demand.proofs.Tasks.{tasksLeft, left-none, left-all, work-more, words-ranged}
 use Rattle.demand.proofs.work_at.Statement.{statement}
 use Rattle.demand.proofs.work_at.Tie as tie

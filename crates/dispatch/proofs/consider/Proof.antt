@@ -5,7 +5,7 @@ use Rattle.dispatch.proofs.Walk.{Offer, best-done, best-new, best-old}
 use Rattle.dispatch.proofs.consider.Statement.{statement}
 use Rattle.dispatch.proofs.consider.Tie as tie
 
-abbrev start : tie.After-later → tie.Start
+abbrev start : tie.After-greater → tie.Start
 start c = c .before .before .before .before .before .before .before .before .before .before
 
 mul-q : tie.Need-mul-q
@@ -53,13 +53,13 @@ wide-requires-3 c κs = search needs
 add-due : tie.Need-add-due
 add-due c = search needs
 
-later-requires : tie.Need-later-requires
-later-requires c κs = search needs
+greater-requires : tie.Need-greater-requires
+greater-requires c κs = search needs
 
 -- what task i offers
-offer : (c : tie.After-later)
+offer : (c : tie.After-greater)
     → Offer (now (start c .args .table)) (now (start c .args .first)) (now (start c .args .count)) (now (start c .args .next)) (start c .args .t) (start c .args .m)
-    (start c .args .i) (c .before .before .before .release .result) (c .later .result) (c .before .wide3 .result)
+    (start c .args .i) (c .before .before .before .release .result) (c .greater .result) (c .before .wide3 .result)
 offer c =
     let r = c .before .before .before in
     let n = r .before .before in
@@ -69,7 +69,7 @@ offer c =
       few = omega (arith, n .before .wide .ensures);
       comes = r .release .ensures .0;
       early = r .release .ensures .1;
-      starts = c .later .ensures;
+      starts = c .greater .ensures;
       due-in = c .before .wide3 .ensures .0;
     }
 
@@ -109,7 +109,7 @@ consider-spec =
     shared-slice-read-wide
     wide-requires-3
     add-due
-    later-requires
+    greater-requires
     returns-2
     returns-3
     returns-4

@@ -4,7 +4,7 @@ use Prim.Native.Nat.{_-_, _≤_}
 use native.Mathlib.Omega.{arith}
 use borrow.Author.Needs.{needs}
 use Rattle.rules.specs.Jobs.{countWithin}
-use Rattle.demand.specs.Parts.{taskCount}
+use Rattle.rules.specs.Table.{taskCount}
 use Rattle.demand.proofs.Tasks.{words-ranged}
 use Rattle.dispatch.specs.Plan.{Filled}
 use Rattle.dispatch.proofs.Filled.{filled-none, filled-more, filled-all}

@@ -115,10 +115,9 @@ module _ (w f c nx : List ℕ) (t m : ℕ) where
   pub best-none : (x : Turn) → x .start ≡ 18446744073709551615 → Best w f c nx t m m x
   best-none x e = nobody rest-none e
 
-  -- task i has no job left
-  pub best-done : (i : ℕ) (x : Turn) → i < m → getD c i 0 ≤ getD nx i 0 → Best w f c nx t m (i + 1) x → Best w f c nx t m i x
-  best-done i x h d (nobody e s) = nobody (rest-done i h d ∙ e) s
-  best-done i x h d (somebody ch) =
+  -- the job found so far is found of the tasks from i on too
+  kept : (i : ℕ) (x : Turn) → Chosen w f c nx t m (i + 1) x → ready t (rest i) ≡ x .start → pick (x .start) (rest i) ≡ some (head (x .task)) → Best w f c nx t m i x
+  kept i x ch starts picked =
       somebody
       (record {
         from = omega (arith, ch .from);
@@ -126,10 +125,15 @@ module _ (w f c nx : List ℕ) (t m : ℕ) where
         live = ch .live;
         few = ch .few;
         soon = ch .soon;
-        starts = ap (ready t) (rest-done i h d) ∙ ch .starts;
+        starts = starts;
         due-then = ch .due-then;
-        picked = ap (pick (x .start)) (rest-done i h d) ∙ ch .picked;
+        picked = picked;
       })
+
+  -- task i has no job left
+  pub best-done : (i : ℕ) (x : Turn) → i < m → getD c i 0 ≤ getD nx i 0 → Best w f c nx t m (i + 1) x → Best w f c nx t m i x
+  best-done i x h d (nobody e s) = nobody (rest-done i h d ∙ e) s
+  best-done i x h d (somebody ch) = kept i x ch (ap (ready t) (rest-done i h d) ∙ ch .starts) (ap (pick (x .start)) (rest-done i h d) ∙ ch .picked)
 
   -- it has one
   module _ (i r a v : ℕ) (x : Turn) (O : Offer w f c nx t m i r a v) where
@@ -170,24 +174,14 @@ module _ (w f c nx : List ℕ) (t m : ℕ) where
     pub best-old : t < 2 ^ 63 → x .start ≤ a → (a ≤ x .start → x .due < r + v) → Best w f c nx t m (i + 1) x → Best w f c nx t m i x
     best-old th p q (nobody e g) = absurd (omega arith)
     best-old th p q (somebody ch) =
-        somebody
-        (record {
-          from = omega (arith, ch .from);
-          is-task = ch .is-task;
-          live = ch .live;
-          few = ch .few;
-          soon = ch .soon;
-          starts =
-              ready-left i (O .is-task) (O .live)
-              ∙ ready-more t (x .start) (head i) (head (x .task)) (rest (i + 1)) (ch .picked)
-              ∙ omega (arith, ch .starts);
-          due-then = ch .due-then;
-          picked =
-              pick-left i (O .is-task) (O .live) (x .start)
-              ∙ split a (x .start)
-              (λ g.
-              pick-come (x .start) (head i) (rest (i + 1)) (omega arith)
-              ∙ ap (sooner (head i)) (ch .picked)
-              ∙ sooner-yes (head (x .task)) (head i) (before-yes (head (x .task)) (head i) (omega (arith, q g, ch .due-then)) (λ k. absurd (omega (arith, q g, ch .due-then)))))
-              (λ g. pick-not (x .start) (head i) (rest (i + 1)) (omega (arith, ready-after t (rest (i + 1)), ch .starts)) ∙ ch .picked);
-        })
+        kept i x ch
+        (ready-left i (O .is-task) (O .live)
+        ∙ ready-more t (x .start) (head i) (head (x .task)) (rest (i + 1)) (ch .picked)
+        ∙ omega (arith, ch .starts))
+        (pick-left i (O .is-task) (O .live) (x .start)
+        ∙ split a (x .start)
+        (λ g.
+        pick-come (x .start) (head i) (rest (i + 1)) (omega arith)
+        ∙ ap (sooner (head i)) (ch .picked)
+        ∙ sooner-yes (head (x .task)) (head i) (before-yes (head (x .task)) (head i) (omega (arith, q g, ch .due-then)) (λ k. absurd (omega (arith, q g, ch .due-then)))))
+        (λ g. pick-not (x .start) (head i) (rest (i + 1)) (omega (arith, ready-after t (rest (i + 1)), ch .starts)) ∙ ch .picked))

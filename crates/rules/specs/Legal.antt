@@ -6,7 +6,7 @@ use lib.ListN.{length}
 use Rattle.rules.specs.Task.{Task, taskAt}
 use Rattle.rules.specs.Dispatch.{Job}
 
--- a job of one of the tasks: due D after its release, with a run time from 1 to C
+-- a job of one of the tasks, released at tick 0 or later: due D after its release, with a run time from 1 to C
 pub record Fits (ts : List Task) (j : Job) : Type 0 where
   pub known : j .task < length ts
   pub due : j .deadline ≡ j .release + taskAt ts (j .task) .D
@@ -19,7 +19,7 @@ pub record Apart (ts : List Task) (i j : Job) : Type 0 where
   pub up : i .task ≡ j .task → i .release < j .release → i .number < j .number
   pub down : i .task ≡ j .task → j .release < i .release → j .number < i .number
 
--- a legal pattern: every job fits, and any two are apart; the order of the list says nothing
+-- a legal pattern, a finite list of jobs: every one fits, and any two are apart; the order of the list says nothing
 abbrev pub Legal : List Task → List Job → Type 0
 Legal ts [] = Unit {0}
 Legal ts (j ∷ js) = Fits ts j × ((i : Job) → List·Memᴰ i js → Apart ts j i) × Legal ts js

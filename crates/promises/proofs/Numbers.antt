@@ -7,13 +7,13 @@ use mathlib.Core.Option.{Option, none}
 use lib.ListN.{length}
 use borrow.Author.Tests.{le-ltb, ne-eqb}
 use Rattle.rules.specs.Task.{tasksOf}
-use Rattle.rules.specs.Refusals.{answering, lent}
+use Rattle.rules.specs.Refusals.{numberOf, answering, lent}
 use Rattle.rules.specs.Table.{tableRefusal}
 use Rattle.rules.specs.Dispatch.{Row, dispatch, lateJob, rowWords}
 use Rattle.rules.specs.Jobs.{named}
 use Rattle.rules.specs.Demand.{verdict}
 use Rattle.rules.specs.Text.{took, readSet, wordsRead, restRead, writeSet}
-use Rattle.rules.specs.Answers.{readRefusal, readAnswer, readTable, readRest, writeRefusal, writeAnswer, writeBuffer, endMost, timing, scheduleRows, scheduleRefusal, scheduleAnswer, scheduleBuffer, verdictAnswer, patternRows, patternRefusal, patternAnswer, patternBuffer}
+use Rattle.rules.specs.Answers.{readRefusal, readAnswer, readTable, readRest, writeRefusal, writeAnswer, writeBuffer, endMost, timing, scheduleRows, scheduleRefusal, scheduleAnswer, scheduleBuffer, verdictAnswer, verdictNumber, checkRefusal, checkNumber, patternRows, patternRefusal, patternAnswer, patternBuffer}
 use Rattle.rules.specs.declared.Refusal.{Refusal}
 use Rattle.rules.specs.declared.Blocker.{Blocker}
 use Rattle.rules.specs.declared.Verdict.{Verdict}
@@ -57,7 +57,7 @@ unfolding patternRows
 pattern-rows table L b v = rw v
 
 pub paper-numbers : PaperNumbers
-unfolding scheduleRows scheduleAnswer scheduleBuffer verdictAnswer patternAnswer patternBuffer writeAnswer writeBuffer readAnswer readTable readRest
+unfolding checkNumber checkRefusal scheduleRows scheduleAnswer scheduleBuffer verdictAnswer patternAnswer patternBuffer writeAnswer writeBuffer readAnswer readTable readRest
 paper-numbers = record {
   schedule = λ table out exit z answer rows c t low high e room.
       subst (λ (ws : List Row). (answer ≡ timing (length ws) (lateJob ws)) × Holds exit (rowWords ws) out) (sym e)
@@ -76,4 +76,6 @@ paper-numbers = record {
       (given ReadAnswer.Refused _ (readRefusal text table) _ table exit fine (c .says) (c .leaves)) in
       let back = ap (λ (o : Option Refusal). answering o (λ r. text) (restRead (readSet text))) fine in
       (g .0, c .hands-back ∙ back ∙ ap restRead t, g .1);
+  call = λ text words after t e. rw (t, e);
+  call-refused = λ text r e. ap (λ (o : Option Refusal). answering o numberOf (verdictNumber (verdict (tasksOf (wordsRead (readSet text)))))) e;
 }

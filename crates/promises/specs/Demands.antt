@@ -4,7 +4,7 @@ use mathlib.Core.Logic.{_↔_}
 use Prim.Native.Nat.{ℕ, _+_, _*_, _/_, _≤_, _<_}
 use mathlib.Core.List.{List, [], _∷_, _++_, List·Memᴰ}
 use mathlib.Core.Bool.{Bool, true, false}
-use mathlib.Core.Option.{none}
+use mathlib.Core.Option.{none, some}
 use lib.ListN.{length, drop}
 use Rattle.rules.specs.Choice.{if_then_else_}
 use Rattle.rules.specs.Task.{Task, tasksOf, taskAt, AllSound}
@@ -15,7 +15,7 @@ use Rattle.rules.specs.Jobs.{concrete, named}
 use Rattle.rules.specs.Legal.{Legal}
 use Rattle.rules.specs.Demand.{horizon, fails, closes, blocker, verdict}
 use Rattle.rules.specs.Text.{took, readSet, writeSet}
-use Rattle.rules.specs.Answers.{endMost, timing, verdictAnswer, checkNumber}
+use Rattle.rules.specs.Answers.{endMost, timing, verdictAnswer, verdictNumber, verdictValues, blockerValues, checkRefusal, checkNumber}
 use Rattle.rules.specs.Calls.{Reads, Writes, Schedules, Shows, Reports}
 use Rattle.rules.specs.declared.Refusal.{Refusal}
 use Rattle.rules.specs.declared.Blocker.{Blocker}
@@ -76,6 +76,9 @@ pub record PaperNumbers : Type 0 where
   pub read : (text table rest exit words after : List ℕ) (answer : ReadAnswer) → Reads text table answer rest exit
       → readSet text ≡ took words after → length words ≤ length table
       → (answer ≡ ReadAnswer.Set (length words / 4)) × (rest ≡ after) × Holds exit words table
+  pub call : (text words after : List ℕ) → readSet text ≡ took words after → tableRefusal words ≡ none
+      → checkNumber text ≡ verdictNumber (verdict (tasksOf words))
+  pub call-refused : (text : List ℕ) (r : Refusal) → checkRefusal text ≡ some r → checkNumber text ≡ numberOf r
 
 -- writing then reading gives the numbers back, whatever follows; reading an in-range set then writing gives the bytes back
 pub record RoundTrips : Type 0 where
@@ -120,6 +123,16 @@ abbrev pub Condition : List Task → Verdict → Type 0
 Condition ts (Verdict.Misses L b) = Least (λ K. fails K ts) L × (b ≡ blocker L ts)
 Condition ts (Verdict.Meets σ) = None (λ K. fails K ts) × Least (λ t. closes t ts) σ
 Condition ts Verdict.TooFar = None (λ K. fails K ts) × None (λ t. closes t ts)
+
+-- the verdict's number and the values that it carries
+abbrev pub Tells : List Task → ℕ → List ℕ → Type 0
+Tells ts number values = (verdictNumber (verdict ts) ≡ number) × (verdictValues (verdict ts) ≡ values)
+
+-- the paper's table of verdicts: 101 misses, 100 meets, 102 too far, each with what it carries
+pub record VerdictTable : Type 0 where
+  pub misses : (ts : List Task) (L : ℕ) → Least (λ K. fails K ts) L → Tells ts 101 (L ∷ blockerValues (blocker L ts))
+  pub meets : (ts : List Task) (σ : ℕ) → None (λ K. fails K ts) → Least (λ t. closes t ts) σ → Tells ts 100 (σ ∷ [])
+  pub too-far : (ts : List Task) → None (λ K. fails K ts) → None (λ t. closes t ts) → Tells ts 102 []
 
 -- what each verdict promises of the patterns
 abbrev pub Kept : List Task → Verdict → Type 0

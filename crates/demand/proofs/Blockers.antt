@@ -7,7 +7,8 @@ use mathlib.Core.List.{List}
 use mathlib.Core.Bool.{Bool, true, false, _&&_}
 use lib.Dec.{ltb, eqb}
 use borrow.Author.Tests.{ltb-true, leb-true, lt-ltb, le-ltb, eq-eqb, ne-eqb}
-use Rattle.rules.specs.Task.{Task, tasksOf}
+use Rattle.rules.specs.Task.{tasksOf}
+use Rattle.rules.specs.declared.Task.{Task}
 use Rattle.rules.specs.Table.{taskIn, taskCount, ValidTable}
 use Rattle.rules.specs.Demand.{wait, Wait, firstWaiting, blocker}
 use Rattle.rules.specs.declared.Blocker.{Blocker}

@@ -4,7 +4,8 @@ use Prim.Native.Nat.{ℕ, suc, _+_, _-_, _*_, max, _≤_, _<_}
 use native.Mathlib.Omega.{arith}
 use mathlib.Core.List.{List, [], _∷_}
 use lib.ListN.{getD}
-use Rattle.rules.specs.Task.{Task, tasksOf}
+use Rattle.rules.specs.Task.{tasksOf}
+use Rattle.rules.specs.declared.Task.{Task}
 use Rattle.rules.specs.Table.{taskIn, tasksFrom, taskCount, ValidTable}
 use Rattle.rules.specs.Demand.{due, Due, wait, Wait, work}
 use Rattle.rules.proofs.Tables.{tasks-are}

@@ -8,7 +8,7 @@ use mathlib.Core.Bool.{Bool, true, false}
 use lib.Dec.{leb, ltb}
 use borrow.Author.Tests.{le-leb, lt-leb}
 use Rattle.rules.specs.Choice.{if_then_else_}
-use Rattle.rules.specs.Task.{Task}
+use Rattle.rules.specs.declared.Task.{Task}
 use Rattle.rules.specs.Jobs.{countWithin}
 use Rattle.rules.specs.Demand.{due, Due, fails, ceiling}
 use Rattle.demand.specs.Parts.{Demands, workOf}

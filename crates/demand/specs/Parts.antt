@@ -2,7 +2,7 @@
 use mathlib.Core.Path.{_≡_}
 use Prim.Native.Nat.{ℕ, _*_, _≤_, _<_, _^_}
 use mathlib.Core.List.{List}
-use Rattle.rules.specs.Task.{Task}
+use Rattle.rules.specs.declared.Task.{Task}
 use Rattle.rules.specs.Demand.{Due, Wait, ceiling}
 use Rattle.demand.specs.declared.Words.{Words}
 use Rattle.demand.specs.declared.Demand.{Demand}

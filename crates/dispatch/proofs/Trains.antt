@@ -8,9 +8,11 @@ use mathlib.Core.Option.{Option, some}
 use lib.ListN.{length, getD, length-append}
 use borrow.Author.Tests.{ne-eqb}
 use Rattle.rules.specs.Choice.{if_then_else_}
-use Rattle.rules.specs.Task.{Task, tasksOf}
+use Rattle.rules.specs.Task.{tasksOf}
+use Rattle.rules.specs.declared.Task.{Task}
 use Rattle.rules.specs.Dispatch.{Job, sooner, pick, same, without, earliest, ready, dispatch}
-use Rattle.rules.specs.Jobs.{Train, train, trains}
+use Rattle.rules.specs.Jobs.{train, trains}
+use Rattle.rules.specs.declared.Train.{Train}
 use Rattle.rules.specs.Table.{taskIn, tasksFrom}
 use Rattle.rules.proofs.Tables.{tasks-are}
 use Rattle.dispatch.specs.Plan.{planned, plannedRows}

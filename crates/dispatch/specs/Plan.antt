@@ -3,9 +3,11 @@ use mathlib.Core.Path.{_≡_}
 use Prim.Native.Nat.{ℕ, _^_, _<_}
 use mathlib.Core.List.{List, _++_}
 use lib.ListN.{length, getD, drop}
-use Rattle.rules.specs.Task.{Task, tasksOf}
+use Rattle.rules.specs.Task.{tasksOf}
+use Rattle.rules.specs.declared.Task.{Task}
 use Rattle.rules.specs.Dispatch.{Row, dispatch, lateJob, rowWords}
-use Rattle.rules.specs.Jobs.{Train, trains}
+use Rattle.rules.specs.Jobs.{trains}
+use Rattle.rules.specs.declared.Train.{Train}
 use Rattle.rules.specs.Answers.{timing}
 use Rattle.rules.specs.declared.ScheduleAnswer.{ScheduleAnswer}
 

@@ -1,13 +1,14 @@
 // The paper's number of each refusal and of each verdict, in code; rules/specs has the same as definitions.
 ghost use mathlib.Core.Path.{_≡_};
-ghost use Rattle.rules.specs.Refusals.{numberOf, valueOf};
-ghost use Rattle.rules.specs.Answers.{verdictNumber};
+ghost use Rattle.rules.specs.Refusals.{entry};
+ghost use Rattle.rules.specs.Told.{numberTold, judgedTold};
+use rules::Carried;
 use rules::Refusal;
 use rules::Verdict;
 
 // A refusal's number.
 pub fn refusal_number(r: Refusal) -> u32
-    ensures { λ n. ⌜ n ≡ numberOf r ⌝ }
+    ensures { λ n. ⌜ n ≡ entry r .number ⌝ }
 {
     match r {
         Refusal::NoWord => 1,
@@ -21,25 +22,20 @@ pub fn refusal_number(r: Refusal) -> u32
     }
 }
 
-// The value that a refusal carries, 0 where it carries none.
-pub fn refusal_value(r: Refusal) -> u32
-    ensures { λ n. ⌜ n ≡ valueOf r ⌝ }
+// What a refusal carries.
+pub fn refusal_carries(r: Refusal) -> Carried
+    ensures { λ c. ⌜ c ≡ entry r .carries ⌝ }
 {
     match r {
-        Refusal::OutOfRange(i) => i,
-        Refusal::BadLine(l) => l,
-        Refusal::NoWord => 0,
-        Refusal::NotFours => 0,
-        Refusal::TooManyWords => 0,
-        Refusal::BadEnd => 0,
-        Refusal::TooShort => 0,
-        Refusal::NotMisses => 0,
+        Refusal::OutOfRange(i) => Carried::Word(i),
+        Refusal::BadLine(l) => Carried::Line(l),
+        _ => Carried::Nothing,
     }
 }
 
 // A verdict's number for the C call.
 pub fn verdict_number(v: Verdict) -> u32
-    ensures { λ n. ⌜ n ≡ verdictNumber v ⌝ }
+    ensures { λ n. ⌜ n ≡ numberTold (judgedTold v) ⌝ }
 {
     match v {
         Verdict::Meets(_) => 100,

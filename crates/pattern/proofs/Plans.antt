@@ -9,7 +9,8 @@ use lib.ListN.{length, getD, set}
 use lib.Seq.{getD-set-same, getD-set-other}
 use borrow.Author.Tests.{eqb-true, eqb-false}
 use Rattle.rules.specs.Choice.{if_then_else_}
-use Rattle.rules.specs.Task.{Task, tasksOf}
+use Rattle.rules.specs.Task.{tasksOf}
+use Rattle.rules.specs.declared.Task.{Task}
 use Rattle.rules.specs.Table.{taskIn, taskCount, ValidTable}
 use Rattle.rules.specs.Dispatch.{dispatch}
 use Rattle.rules.specs.Jobs.{countWithin, namedTrain, named}

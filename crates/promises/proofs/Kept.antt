@@ -6,14 +6,15 @@ use native.Mathlib.Omega.{arith}
 use mathlib.Core.List.{List}
 use mathlib.Core.Bool.{Bool, true, false}
 use mathlib.Core.Option.{Option, none, some}
-use Rattle.rules.specs.Task.{Task, tasksOf, AllSound}
+use Rattle.rules.specs.Task.{tasksOf, AllSound}
+use Rattle.rules.specs.declared.Task.{Task}
 use Rattle.rules.specs.Refusals.{answering}
 use Rattle.rules.specs.Table.{tableRefusal}
 use Rattle.rules.specs.Dispatch.{Job}
 use Rattle.rules.specs.Jobs.{named}
 use Rattle.rules.specs.Legal.{Legal}
 use Rattle.rules.specs.Demand.{fails, closes, firstFail, blocker, verdict}
-use Rattle.rules.specs.Answers.{verdictAnswer, verdictNumber, verdictValues}
+use Rattle.rules.specs.Answers.{verdictAnswer}
 use Rattle.rules.specs.declared.Refusal.{Refusal}
 use Rattle.rules.specs.declared.Verdict.{Verdict}
 use Rattle.rules.specs.declared.VerdictAnswer.{VerdictAnswer}
@@ -22,7 +23,7 @@ use Rattle.rules.proofs.Verdicts.{First, misses-when, meets-when, too-far-when,
 use Rattle.rules.proofs.Meets.{meets}
 use Rattle.rules.proofs.Misses.{misses}
 use Rattle.rules.proofs.Least.{least-below}
-use Rattle.promises.specs.Demands.{InTime, MakesLate, Least, Condition, Tells, VerdictTable, Kept, KeptBy, TrueOfEveryPattern}
+use Rattle.promises.specs.Demands.{InTime, MakesLate, Least, Condition, Kept, KeptBy, TrueOfEveryPattern}
 use Rattle.promises.specs.Sharper.{Sharper}
 use Rattle.promises.proofs.Whole.{legal-whole}
 
@@ -43,17 +44,6 @@ exactly ts (Verdict.Meets σ) = (
   λ h. meets-when ts σ .1 (h .0, first-of _ σ (h .1)),
 )
 exactly ts Verdict.TooFar = too-far-when ts
-
--- the number and the values of a verdict
-tells : (ts : List Task) (v : Verdict) → verdict ts ≡ v → Tells ts (verdictNumber v) (verdictValues v)
-tells ts v e = (ap verdictNumber e, ap verdictValues e)
-
-pub verdict-table : VerdictTable
-verdict-table = record {
-  misses = λ ts L l. tells ts (Verdict.Misses L (blocker L ts)) (exactly ts (Verdict.Misses L (blocker L ts)) .1 (l, refl));
-  meets = λ ts σ n l. tells ts (Verdict.Meets σ) (exactly ts (Verdict.Meets σ) .1 (n, l));
-  too-far = λ ts n m. tells ts Verdict.TooFar (exactly ts Verdict.TooFar .1 (n, m));
-}
 
 module _ (ts : List Task) (sound : AllSound ts) where
   in-time : (σ : ℕ) → 1 ≤ σ → closes σ ts ≡ true → ((L : ℕ) → 1 ≤ L → L < σ → fails L ts ≡ false) → (js : List Job) → Legal ts js → InTime js

@@ -4,7 +4,8 @@ use Prim.Native.Nat.{ℕ}
 use native.Mathlib.Omega.{arith}
 use mathlib.Core.List.{List, List·Memᴰ, List·Memᴰ·not-nil}
 use mathlib.Core.Bool.{false}
-use Rattle.rules.specs.Task.{Task, AllSound}
+use Rattle.rules.specs.Task.{AllSound}
+use Rattle.rules.specs.declared.Task.{Task}
 use Rattle.rules.specs.Dispatch.{Job, Row, same}
 use Rattle.rules.specs.Legal.{Legal}
 use Rattle.rules.proofs.Taken.{taken-mem, taken-cases, same-self, differ-back, Distinct, taken-distinct, taken-differ}

@@ -7,15 +7,16 @@ use mathlib.Core.Bool.{Bool, true, false}
 use mathlib.Core.Option.{none, some}
 use lib.ListN.{length, drop}
 use Rattle.rules.specs.Choice.{if_then_else_}
-use Rattle.rules.specs.Task.{Task, tasksOf, taskAt, AllSound}
+use Rattle.rules.specs.Task.{tasksOf, taskAt, AllSound}
+use Rattle.rules.specs.declared.Task.{Task}
 use Rattle.rules.specs.Refusals.{numberOf}
 use Rattle.rules.specs.Table.{tableRefusal}
 use Rattle.rules.specs.Dispatch.{Job, Row, late, same, dispatch, lateJob, rowWords}
 use Rattle.rules.specs.Jobs.{concrete, named}
 use Rattle.rules.specs.Legal.{Legal}
-use Rattle.rules.specs.Demand.{horizon, fails, closes, blocker, verdict}
+use Rattle.rules.specs.Demand.{fails, closes, blocker, verdict}
 use Rattle.rules.specs.Text.{took, readSet, writeSet}
-use Rattle.rules.specs.Answers.{endMost, timing, verdictAnswer, verdictNumber, verdictValues, blockerValues, checkRefusal, checkNumber}
+use Rattle.rules.specs.Answers.{timing, verdictAnswer, checkNumber}
 use Rattle.rules.specs.Calls.{Reads, Writes, Schedules, Shows, Reports}
 use Rattle.rules.specs.declared.Refusal.{Refusal}
 use Rattle.rules.specs.declared.Blocker.{Blocker}
@@ -56,30 +57,6 @@ pub record Untouched : Type 0 where
 
 -- 2. THE NUMBERS ARE THE PAPER'S. Rows, late job, verdict and text each equal a definition.
 
--- a buffer holds a result at its start, and beyond it what it held before
-abbrev pub Holds : List ℕ → List ℕ → List ℕ → Type 0
-Holds exit result out = exit ≡ result ++ drop (length result) out
-
--- what the calls give where the table is one, Z is in its range, and the result fits
-pub record PaperNumbers : Type 0 where
-  pub schedule : (table out exit : List ℕ) (z : ℕ) (answer : ScheduleAnswer) (rows : List Row) → Schedules table z out answer exit
-      → tableRefusal table ≡ none → 1 ≤ z → z ≤ endMost → rows ≡ dispatch (concrete z (tasksOf table)) → 4 * length rows ≤ length out
-      → (answer ≡ timing (length rows) (lateJob rows)) × Holds exit (rowWords rows) out
-  pub judgement : (table : List ℕ) → tableRefusal table ≡ none → verdictAnswer table ≡ VerdictAnswer.Judged (verdict (tasksOf table))
-  pub pattern : (table out exit : List ℕ) (answer : PatternAnswer) (L : ℕ) (b : Blocker) (rows : List Row) → Shows table out answer exit
-      → tableRefusal table ≡ none → verdict (tasksOf table) ≡ Verdict.Misses L b
-      → rows ≡ dispatch (named L (tasksOf table)) → 4 * length rows ≤ length out
-      → (answer ≡ PatternAnswer.Rows (length rows)) × Holds exit (rowWords rows) out
-  pub written : (table out exit : List ℕ) (answer : WriteAnswer) → Writes table out answer exit
-      → tableRefusal table ≡ none → length (writeSet table) ≤ length out
-      → (answer ≡ WriteAnswer.Written (length (writeSet table))) × Holds exit (writeSet table) out
-  pub read : (text table rest exit words after : List ℕ) (answer : ReadAnswer) → Reads text table answer rest exit
-      → readSet text ≡ took words after → length words ≤ length table
-      → (answer ≡ ReadAnswer.Set (length words / 4)) × (rest ≡ after) × Holds exit words table
-  pub call : (text words after : List ℕ) → readSet text ≡ took words after → tableRefusal words ≡ none
-      → checkNumber text ≡ verdictNumber (verdict (tasksOf words))
-  pub call-refused : (text : List ℕ) (r : Refusal) → checkRefusal text ≡ some r → checkNumber text ≡ numberOf r
-
 -- writing then reading gives the numbers back, whatever follows; reading an in-range set then writing gives the bytes back
 pub record RoundTrips : Type 0 where
   pub write-then-read : (table after : List ℕ) → tableRefusal table ≡ none → readSet (writeSet table ++ after) ≡ took table after
@@ -112,27 +89,17 @@ pub record MakesLate (ts : List Task) (js : List Job) : Type 0 where
 
 -- x is the least number from 1 to H that passes a test
 abbrev pub Least : (ℕ → Bool) → ℕ → Type 0
-Least p x = (1 ≤ x) × (x ≤ horizon) × (p x ≡ true) × ((y : ℕ) → 1 ≤ y → y < x → p y ≡ false)
+Least p x = (1 ≤ x) × (x ≤ 100000) × (p x ≡ true) × ((y : ℕ) → 1 ≤ y → y < x → p y ≡ false)
 
 -- no number from 1 to H passes
 abbrev pub None : (ℕ → Bool) → Type 0
-None p = (y : ℕ) → 1 ≤ y → y ≤ horizon → p y ≡ false
+None p = (y : ℕ) → 1 ≤ y → y ≤ 100000 → p y ≡ false
 
 -- when each verdict is due, with what it carries
 abbrev pub Condition : List Task → Verdict → Type 0
 Condition ts (Verdict.Misses L b) = Least (λ K. fails K ts) L × (b ≡ blocker L ts)
 Condition ts (Verdict.Meets σ) = None (λ K. fails K ts) × Least (λ t. closes t ts) σ
 Condition ts Verdict.TooFar = None (λ K. fails K ts) × None (λ t. closes t ts)
-
--- the verdict's number and the values that it carries
-abbrev pub Tells : List Task → ℕ → List ℕ → Type 0
-Tells ts number values = (verdictNumber (verdict ts) ≡ number) × (verdictValues (verdict ts) ≡ values)
-
--- the paper's table of verdicts: 101 misses, 100 meets, 102 too far, each with what it carries
-pub record VerdictTable : Type 0 where
-  pub misses : (ts : List Task) (L : ℕ) → Least (λ K. fails K ts) L → Tells ts 101 (L ∷ blockerValues (blocker L ts))
-  pub meets : (ts : List Task) (σ : ℕ) → None (λ K. fails K ts) → Least (λ t. closes t ts) σ → Tells ts 100 (σ ∷ [])
-  pub too-far : (ts : List Task) → None (λ K. fails K ts) → None (λ t. closes t ts) → Tells ts 102 []
 
 -- what each verdict promises of the patterns
 abbrev pub Kept : List Task → Verdict → Type 0

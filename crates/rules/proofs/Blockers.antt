@@ -10,8 +10,9 @@ use lib.Dec.{ltb, eqb}
 use lib.ListN.{length}
 use borrow.Author.Tests.{ltb-true, ltb-false, lt-ltb, eqb-true, eqb-false}
 use Rattle.rules.specs.Choice.{if_then_else_}
-use Rattle.rules.specs.Task.{Task, taskAt}
-use Rattle.rules.specs.Demand.{wait, Wait, firstWaiting, blocker}
+use Rattle.rules.specs.Task.{taskAt}
+use Rattle.rules.specs.declared.Task.{Task}
+use Rattle.rules.specs.Demand.{wait, Wait, firstWaiting, blocker, Blocks}
 use Rattle.rules.specs.declared.Blocker.{Blocker}
 
 -- Wait(L) is at least C − 1 of each task with D above L
@@ -67,13 +68,6 @@ first-waiting W L k (τ ∷ ts) pos e = go (ltb L (τ .D)) refl (eqb (τ .C - 1)
 pub wait-reached : (L : ℕ) (ts : List Task) → 0 < Wait L ts
     → (k : ℕ) × (k < length ts) × (L < taskAt ts k .D) × (taskAt ts k .C - 1 ≡ Wait L ts)
 wait-reached L ts pos = let (k, x) = first-waiting (Wait L ts) L 0 ts pos refl in (k, x .known, x .above, x .reaches)
-
--- task b holds the tile longest before a length: its D is above L, no such task has a greater C, and each lower-numbered one a lesser C
-pub record Blocks (L : ℕ) (ts : List Task) (b : ℕ) : Type 0 where
-  pub known : b < length ts
-  pub above : L < taskAt ts b .D
-  pub greatest : (k : ℕ) → k < length ts → L < taskAt ts k .D → taskAt ts k .C ≤ taskAt ts b .C
-  pub lowest : (k : ℕ) → k < b → L < taskAt ts k .D → taskAt ts k .C < taskAt ts b .C
 
 -- there is at most one
 blocks-once : (L : ℕ) (ts : List Task) (a b : ℕ) → Blocks L ts a → Blocks L ts b → a ≡ b

@@ -8,12 +8,12 @@ use mathlib.Core.List.{List, [], _∷_, List·Memᴰ, List·Memᴰ·head, List·
 use mathlib.Core.Bool.{Bool, true, false, not, _&&_}
 use borrow.Author.Tests.{not-true, eqb-true, eqb-false, leb-true, ltb-true, ltb-false, le-leb, lt-leb, lt-ltb}
 use lib.Dec.{eqb, leb, ltb}
-use Rattle.rules.specs.Task.{Task, taskAt, AllSound}
+use Rattle.rules.specs.Task.{taskAt, AllSound}
+use Rattle.rules.specs.declared.Task.{Task}
 use Rattle.rules.specs.Dispatch.{Job}
-use Rattle.rules.specs.Jobs.{countWithin}
 use Rattle.rules.specs.Legal.{Legal}
-use Rattle.rules.specs.Demand.{due, Due, ceiling, work}
-use Rattle.rules.proofs.Tests.{both-true, lt-or-ge}
+use Rattle.rules.specs.Demand.{countWithin, due, Due, ceiling, work}
+use Rattle.rules.proofs.Booleans.{both-true, lt-or-ge}
 use Rattle.rules.proofs.Taken.{Taken, now, later}
 use Rattle.rules.proofs.Legal.{taskAt-sound, legal-fits}
 use Rattle.rules.proofs.Rest.{Rest, rest-all, rest-here, rest-next}
@@ -171,12 +171,8 @@ module _ (ts : List Task) (js : List Job) (l : Legal ts js) (n : Task → ℕ) (
 
 -- Due and work are loads
 pub due-load : (L : ℕ) (τ : Task) → τ .C * countWithin L τ ≡ due L τ
-unfolding due countWithin
-due-load L τ = go (lt-or-ge L (τ .D))
-  where
-    go : (ltb L (τ .D) ≡ true) ⊎ (leb (τ .D) L ≡ true) → τ .C * countWithin L τ ≡ due L τ
-    go (inl h) = rw (lt-leb (τ .D) L (ltb-true _ _ h)) (mul-zero (τ .C))
-    go (inr h) = rw h
+unfolding due
+due-load L τ = refl
 
 pub Due-load : (L : ℕ) (ts : List Task) → load (countWithin L) ts ≡ Due L ts
 unfolding load Due

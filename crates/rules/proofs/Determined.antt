@@ -7,10 +7,12 @@ use native.Mathlib.Omega.{arith}
 use native.Mathlib.Decide.{decLt}
 use mathlib.Core.List.{List, [], _∷_, List·Memᴰ, List·Memᴰ·head, List·Memᴰ·tail, List·Memᴰ·not-nil}
 use lib.ListN.{length}
-use Rattle.rules.specs.Task.{Task, tasksOf, taskAt, AllSound}
+use Rattle.rules.specs.Task.{tasksOf, taskAt, AllSound}
+use Rattle.rules.specs.declared.Task.{Task}
 use Rattle.rules.specs.Table.{tableRefusal}
 use Rattle.rules.specs.Dispatch.{Job, Row, finish, pick, without, earliest, ready, rows, dispatch}
-use Rattle.rules.specs.Jobs.{concreteTrain, concrete, namedTrain, named}
+use Rattle.rules.specs.Jobs.{planTrain, planned, concrete, named}
+use Rattle.rules.specs.declared.Plan.{Plan}
 use Rattle.rules.specs.Legal.{Legal}
 use Rattle.rules.specs.Demand.{blocker, verdict}
 use Rattle.rules.specs.Answers.{scheduleRows, patternRows}
@@ -21,7 +23,8 @@ use Rattle.rules.proofs.Trains.{trains-legal}
 use Rattle.rules.proofs.Taken.{Taken, taken-mem, taken-cases, taken-length, taken-distinct, without-taken, Distinct}
 use Rattle.rules.proofs.Legal.{taskAt-sound, legal-fits, legal-distinct}
 use Rattle.rules.proofs.Picked.{Picked, Pick, nobody, somebody, picks, earliest-least, earliest-some}
-use Rattle.rules.proofs.Dispatcher.{rowAt, NotStarted, Obeys, taken-gone, dispatch-obeys}
+use Rattle.rules.specs.Policy.{Ahead, rowAt, NotStarted, Obeys}
+use Rattle.rules.proofs.Dispatcher.{taken-gone, dispatch-obeys}
 
 -- two jobs of one task never have the same deadline
 abbrev pub NoTies : List Job → Type 0
@@ -150,14 +153,14 @@ legal-only ts sound js l = dispatch-only js (legal-distinct ts sound js l) (lega
 -- the rows of the concrete schedule, and those of the pattern, are the only ones that obey the rules
 pub schedule-only : (table : List ℕ) → tableRefusal table ≡ none → (z : ℕ) (ws : List Row)
     → Obeys 0 (concrete z (tasksOf table)) ws ↔ (ws ≡ scheduleRows table z)
-unfolding scheduleRows concrete
+unfolding planned
 schedule-only table f z =
-    legal-only (tasksOf table) (table-sound table f) (concrete z (tasksOf table)) (trains-legal (concreteTrain z) (tasksOf table) (table-sound table f))
+    legal-only (tasksOf table) (table-sound table f) (concrete z (tasksOf table)) (trains-legal (planTrain (Plan.Concrete z)) (tasksOf table) (table-sound table f))
 
 pub pattern-only : (table : List ℕ) → tableRefusal table ≡ none → (L : ℕ) (b : Blocker) → verdict (tasksOf table) ≡ Verdict.Misses L b → (ws : List Row)
     → Obeys 0 (named L (tasksOf table)) ws ↔ (ws ≡ patternRows table)
-unfolding patternRows named
+unfolding planned
 pattern-only table f L b v ws =
     rw v
     (legal-only (tasksOf table) (table-sound table f) (named L (tasksOf table))
-    (trains-legal (namedTrain L (blocker L (tasksOf table))) (tasksOf table) (table-sound table f)) ws)
+    (trains-legal (planTrain (Plan.Named L (blocker L (tasksOf table)))) (tasksOf table) (table-sound table f)) ws)

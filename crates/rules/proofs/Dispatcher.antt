@@ -5,52 +5,15 @@ use native.Mathlib.Omega.{arith}
 use mathlib.Core.List.{List, [], _∷_, List·Memᴰ, List·Memᴰ·head, List·Memᴰ·tail, List·Memᴰ·not-nil}
 use mathlib.Core.Bool.{false}
 use lib.ListN.{length, getD}
-use Rattle.rules.specs.Task.{Task, AllSound}
+use Rattle.rules.specs.Task.{AllSound}
+use Rattle.rules.specs.declared.Task.{Task}
 use Rattle.rules.specs.Dispatch.{Job, Row, finish, same, ready, dispatch}
 use Rattle.rules.specs.Legal.{Legal}
 use Rattle.rules.proofs.Taken.{Taken, now, later, taken-in, taken-mem, taken-cases, taken-length, taken-distinct, same-false, Distinct}
 use Rattle.rules.proofs.Legal.{legal-distinct}
-use Rattle.rules.proofs.Picked.{Ahead, Picked, earliest-least}
+use Rattle.rules.specs.Policy.{Ahead, rowAt, freeFrom, NotStarted, Obeys}
+use Rattle.rules.proofs.Picked.{Picked, earliest-least}
 use Rattle.rules.proofs.Runs.{Run, done, step, distinct-run}
-
--- the row at a place
-abbrev pub rowAt : List Row → ℕ → Row
-rowAt ws k = getD ws k (record { job = record { task = 0; number = 0; release = 0; deadline = 0; run = 0 }; start = 0 })
-
--- from which tick on the tile is free for the row at a place: from t for the first, else from the finish of the row before
-abbrev pub freeFrom : ℕ → List Row → ℕ → ℕ
-freeFrom t ws zero = t
-freeFrom t [] (suc k) = t
-freeFrom t (w ∷ ws) (suc k) = freeFrom (finish w) ws k
-
--- no row before a place runs the job
-abbrev pub NotStarted : List Row → ℕ → Job → Type 0
-NotStarted ws k j = (i : ℕ) → i < k → rowAt ws i .job ≡ j → ⊥
-
--- the rules, for the rows of the jobs js with the tile free from tick t on
-pub record Obeys (t : ℕ) (js : List Job) (ws : List Row) : Type 0 where
-  -- every row runs one of the jobs
-  pub of-jobs : (k : ℕ) → k < length ws → List·Memᴰ (rowAt ws k .job) js
-  -- every job has a row
-  pub every-job : (j : Job) → List·Memᴰ j js → (k : ℕ) × (k < length ws) × (rowAt ws k .job ≡ j)
-  -- and no job has two
-  pub once : (i k : ℕ) → i < k → k < length ws → rowAt ws i .job ≡ rowAt ws k .job → ⊥
-  -- there are as many rows as jobs
-  pub as-many : length ws ≡ length js
-  -- no job starts before its release
-  pub not-early : (k : ℕ) → k < length ws → rowAt ws k .job .release ≤ rowAt ws k .start
-  -- nor before the tile is free
-  pub tile-free : (k : ℕ) → k < length ws → freeFrom t ws k ≤ rowAt ws k .start
-  -- two rows never overlap: the one at the earlier place finishes by the start of the other
-  pub no-overlap : (i k : ℕ) → i < k → k < length ws → finish (rowAt ws i) ≤ rowAt ws k .start
-  -- rows stand in order of start
-  pub in-order : (i k : ℕ) → i < k → k < length ws → rowAt ws i .start ≤ rowAt ws k .start
-  -- the tile is never idle while a job is pending: where it was free before the start, no job not yet started is released before the start
-  pub never-idle : (k : ℕ) → k < length ws → (j : Job) → List·Memᴰ j js → NotStarted ws k j
-      → freeFrom t ws k < rowAt ws k .start → rowAt ws k .start ≤ j .release
-  -- of the pending jobs, released and not yet started, the one with the least deadline starts; of equal deadlines the lower task
-  pub least-first : (k : ℕ) → k < length ws → (j : Job) → List·Memᴰ j js → NotStarted ws k j
-      → j .release ≤ rowAt ws k .start → Ahead (rowAt ws k .job) j
 
 -- a job taken out of such a list is not left in it
 equal-same : (i j : Job) → i ≡ j → same i j ≡ false → ⊥

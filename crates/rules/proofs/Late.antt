@@ -8,7 +8,7 @@ use mathlib.Core.Bool.{Bool, true, false}
 use borrow.Author.Tests.{leb-true, ltb-true, lt-ltb, lt-leb}
 use lib.Dec.{leb, ltb}
 use Rattle.rules.specs.Dispatch.{Job, Row, finish, late, ready}
-use Rattle.rules.proofs.Tests.{lt-or-ge}
+use Rattle.rules.proofs.Booleans.{lt-or-ge}
 use Rattle.rules.proofs.Taken.{taken-mem}
 use Rattle.rules.proofs.Picked.{earliest-least}
 use Rattle.rules.proofs.Runs.{Run, done, step}

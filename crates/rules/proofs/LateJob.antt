@@ -10,8 +10,9 @@ use lib.Dec.{ltb, eqb}
 use borrow.Author.Tests.{ltb-true, eqb-true}
 use Rattle.rules.specs.Choice.{if_then_else_}
 use Rattle.rules.specs.Dispatch.{Job, Row, late, before, sooner, lateJob}
-use Rattle.rules.proofs.Tests.{true-is-not-false}
-use Rattle.rules.proofs.Picked.{Ahead, ahead-self, ahead-trans, before-true, before-false}
+use Rattle.rules.proofs.Booleans.{true-is-not-false}
+use Rattle.rules.specs.Policy.{Ahead, NamedLate}
+use Rattle.rules.proofs.Picked.{ahead-self, ahead-trans, before-true, before-false}
 
 -- one that is ahead is not gone before
 pub ahead-first : (j i : Job) → Ahead j i → before i j ≡ false

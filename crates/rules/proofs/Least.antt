@@ -7,10 +7,11 @@ use mathlib.Core.List.{List}
 use mathlib.Core.Bool.{true, false}
 use borrow.Author.Tests.{leb-true, ltb-true}
 use lib.Dec.{leb, ltb}
-use Rattle.rules.specs.Task.{Task, AllSound}
+use Rattle.rules.specs.Task.{AllSound}
+use Rattle.rules.specs.declared.Task.{Task}
 use Rattle.rules.specs.Jobs.{named}
 use Rattle.rules.specs.Demand.{fails, closes}
-use Rattle.rules.proofs.Tests.{true-is-not-false, lt-or-ge}
+use Rattle.rules.proofs.Booleans.{true-is-not-false, lt-or-ge}
 use Rattle.rules.proofs.Meets.{meets}
 use Rattle.rules.proofs.Misses.{misses}
 

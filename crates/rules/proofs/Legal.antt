@@ -8,10 +8,11 @@ use mathlib.Core.Logic.{_⊎_, inl, inr}
 use borrow.Author.Tests.{leb-true, ltb-true}
 use lib.Dec.{leb, ltb}
 use lib.ListN.{length}
-use Rattle.rules.specs.Task.{Task, taskAt, Sound, AllSound}
+use Rattle.rules.specs.Task.{taskAt, Sound, AllSound}
+use Rattle.rules.specs.declared.Task.{Task}
 use Rattle.rules.specs.Dispatch.{Job, same}
 use Rattle.rules.specs.Legal.{Fits, Apart, Legal}
-use Rattle.rules.proofs.Tests.{lt-or-ge}
+use Rattle.rules.proofs.Booleans.{lt-or-ge}
 use Rattle.rules.proofs.Taken.{Taken, now, later, taken-mem, same-true, Distinct}
 
 -- the task of a number below the length is one of the list

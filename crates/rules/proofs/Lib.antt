@@ -1,10 +1,10 @@
 -- Laws about the definitions.
 -- tests, searches, tables and refusals
-pub mod Tests
+pub mod Booleans
 pub mod Search
 pub mod Tables
 pub mod Refused
-pub mod RefusedCalls
+pub mod Calls
 -- the dispatcher: what it picks, its runs, its rules, and that they leave one list of rows
 pub mod Taken
 pub mod Legal

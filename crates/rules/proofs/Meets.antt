@@ -11,11 +11,12 @@ use mathlib.Core.Bool.{true, false}
 use borrow.Author.Tests.{leb-true, ltb-true, ltb-false, le-leb, le-ltb}
 use lib.Dec.{leb, ltb}
 use lib.ListN.{length}
-use Rattle.rules.specs.Task.{Task, taskAt, Sound, AllSound}
+use Rattle.rules.specs.Task.{taskAt, Sound, AllSound}
+use Rattle.rules.specs.declared.Task.{Task}
 use Rattle.rules.specs.Dispatch.{Job, Row, finish, late, earliest, ready, dispatch}
 use Rattle.rules.specs.Legal.{Fits, Legal}
 use Rattle.rules.specs.Demand.{Due, Wait, fails, work, closes}
-use Rattle.rules.proofs.Tests.{lt-or-ge}
+use Rattle.rules.proofs.Booleans.{lt-or-ge}
 use Rattle.rules.proofs.Taken.{Taken, taken-mem}
 use Rattle.rules.proofs.Legal.{taskAt-sound, legal-fits, taken-legal}
 use Rattle.rules.proofs.Picked.{earliest-least, earliest-some, Picked}

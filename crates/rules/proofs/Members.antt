@@ -11,10 +11,12 @@ use lib.Dec.{leb, ltb}
 use lib.ListN.{length}
 use borrow.Author.Tests.{leb-true, leb-false, ltb-true, ltb-false, eq-eqb, ne-eqb}
 use Rattle.rules.specs.Choice.{if_then_else_}
-use Rattle.rules.specs.Task.{Task, taskAt, AllSound}
+use Rattle.rules.specs.Task.{taskAt, AllSound}
+use Rattle.rules.specs.declared.Task.{Task}
 use Rattle.rules.specs.Dispatch.{Job}
-use Rattle.rules.specs.Jobs.{train, Train, trains, countBefore, concreteTrain, concrete, countWithin, namedTrain, named}
-use Rattle.rules.specs.Demand.{blocker}
+use Rattle.rules.specs.Jobs.{train, trains, countBefore, concreteTrain, planTrain, planned, concrete, namedTrain, named}
+use Rattle.rules.specs.declared.Train.{Train}
+use Rattle.rules.specs.Demand.{countWithin, blocker}
 use Rattle.rules.specs.declared.Blocker.{Blocker}
 use Rattle.rules.proofs.Legal.{taskAt-sound}
 
@@ -167,7 +169,7 @@ trains-members plan ts j = (
 -- the jobs of the concrete schedule are those of the tasks' trains from R on that are released before Z
 pub concrete-members : (Z : ℕ) (ts : List Task) (j : Job) → AllSound ts
     → List·Memᴰ j (concrete Z ts) ↔ ((j .task < length ts) × (j .release < Z) × OnTrain (taskOf ts j .R) (taskOf ts j) j)
-unfolding concrete concreteTrain
+unfolding planned concreteTrain
 concrete-members Z ts j sound = (
   λ m. let x = all .0 m in (x .0, let l = counts (x .0) .0 (x .1) in omega arith, x .2),
   λ x. all .1 (x .0, counts (x .0) .1 (omega arith), x .2),
@@ -190,7 +192,7 @@ due-within L r ts j sound h o =
 module _ (L : ℕ) (ts : List Task) (j : Job) (f n : ℕ) where
   of-train : namedTrain L (blocker L ts) (j .task) (taskOf ts j) ≡ record { first = f; count = n }
       → List·Memᴰ j (named L ts) ↔ ((j .task < length ts) × (j .number < n) × OnTrain f (taskOf ts j) j)
-  unfolding named
+  unfolding planned
   of-train e =
       subst (λ (t : Train). List·Memᴰ j (trains (namedTrain L (blocker L ts)) 0 ts) ↔ ((j .task < length ts) × (j .number < t .count) × OnTrain (t .first) (taskOf ts j) j))
       e (trains-members (namedTrain L (blocker L ts)) ts j)

@@ -9,18 +9,20 @@ use borrow.Author.Tests.{leb-true, eqb-true, eqb-false, le-leb}
 use lib.Dec.{eqb}
 use lib.ListN.{length}
 use Rattle.rules.specs.Choice.{if_then_else_}
-use Rattle.rules.specs.Task.{Task, taskAt, AllSound}
+use Rattle.rules.specs.Task.{taskAt, AllSound}
+use Rattle.rules.specs.declared.Task.{Task}
 use Rattle.rules.specs.Dispatch.{Job, dispatch}
-use Rattle.rules.specs.Jobs.{Train, train, trains, countWithin, namedTrain, named}
+use Rattle.rules.specs.Jobs.{train, trains, planned, namedTrain, named}
+use Rattle.rules.specs.declared.Train.{Train}
 use Rattle.rules.specs.Legal.{Legal}
-use Rattle.rules.specs.Demand.{due, Due, Wait, fails, blocker}
+use Rattle.rules.specs.Demand.{countWithin, due, Due, Wait, fails, blocker, Blocks}
 use Rattle.rules.specs.declared.Blocker.{Blocker}
 use Rattle.rules.proofs.Rest.{Rest, rest-all, rest-here, rest-next}
 use Rattle.rules.proofs.Members.{trains-members, named-members, named-blocker, named-others}
 use Rattle.rules.proofs.Trains.{trainOf, trains-legal}
 use Rattle.rules.proofs.Runs.{dispatch-run}
 use Rattle.rules.proofs.Count.{amount, total, since, due-load}
-use Rattle.rules.proofs.Blockers.{wait-most, wait-reached, Blocks, blocker-task, blocker-nobody}
+use Rattle.rules.proofs.Blockers.{wait-most, wait-reached, blocker-task, blocker-nobody}
 use Rattle.rules.proofs.Verdicts.{fails-when, due-out}
 use Rattle.rules.proofs.Late.{LateIn, late-run, late-behind}
 
@@ -50,17 +52,17 @@ trains-total ts plan L p each k (τ ∷ us) R =
 
 module _ (ts : List Task) (sound : AllSound ts) (L : ℕ) where
   named-legal : Legal ts (named L ts)
-  unfolding named
+  unfolding planned
   named-legal = trains-legal (namedTrain L (blocker L ts)) ts sound
 
   named-full : (j : Job) → List·Memᴰ j (named L ts) → j .run ≡ taskAt ts (j .task) .C
-  unfolding named
+  unfolding planned
   named-full j m = trains-members (namedTrain L (blocker L ts)) ts j .0 m .2 .runs
 
   module _ (some : 1 ≤ Due L ts) (more : L < Due L ts + Wait L ts) where
     -- without a blocker: more is due by L than fits
     alone : blocker L ts ≡ Blocker.Nobody → LateIn (dispatch (named L ts))
-    unfolding named namedTrain
+    unfolding planned namedTrain
     alone e =
         let w = blocker-nobody L ts .0 e in
         let t : total (since 0) (named L ts) ≡ Due L ts = trains-total ts (namedTrain L (blocker L ts)) L (since 0) each 0 ts (rest-all ts) in
@@ -71,7 +73,7 @@ module _ (ts : List Task) (sound : AllSound ts) (L : ℕ) where
 
     -- with one: it runs first, and behind it more is due by L + 1 than fits
     behind : (b : ℕ) → blocker L ts ≡ Blocker.Task b → LateIn (dispatch (named L ts))
-    unfolding named namedTrain train total amount since
+    unfolding planned namedTrain train total amount since
     behind b e =
         let c = cost in
         let t : total (since 1) (named L ts) ≡ Due L ts = trains-total ts (namedTrain L (blocker L ts)) L (since 1) each 0 ts (rest-all ts) in

@@ -9,7 +9,8 @@ use borrow.Author.Tests.{eqb-true, eqb-false, leb-true, leb-false, ltb-true, ltb
 use lib.Dec.{eqb, leb, ltb}
 use Rattle.rules.specs.Choice.{if_then_else_}
 use Rattle.rules.specs.Dispatch.{Job, before, sooner, pick, earliest}
-use Rattle.rules.proofs.Tests.{true-is-not-false}
+use Rattle.rules.specs.Policy.{Ahead}
+use Rattle.rules.proofs.Booleans.{true-is-not-false}
 use Rattle.rules.proofs.Taken.{mem-cons}
 
 -- no job of a list is released before the earliest release
@@ -30,11 +31,6 @@ earliest-some j (k ∷ js) = go (earliest-some k js) (leb (j .release) (earliest
         → (i : Job) × List·Memᴰ i (j ∷ k ∷ js) × (i .release ≡ min (j .release) (earliest k js))
     go x true e = (j, List·Memᴰ·head refl, omega (arith, leb-true))
     go x false e = (x .0, List·Memᴰ·tail (x .1), omega (arith, leb-false))
-
--- j is not behind i: its deadline is no later, and where the deadlines are equal its task is no higher
-pub record Ahead (j i : Job) : Type 0 where
-  pub deadline : j .deadline ≤ i .deadline
-  pub task : j .deadline ≡ i .deadline → j .task ≤ i .task
 
 pub ahead-self : (j : Job) → Ahead j j
 ahead-self j = record { deadline = omega arith; task = λ e. omega arith }

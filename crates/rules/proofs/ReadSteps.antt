@@ -12,7 +12,7 @@ use lib.ListN.{length, drop, getD, drop-of-length-le}
 use lib.Seq.{drop-cons}
 use borrow.Author.Tests.{eq-eqb, ne-eqb, le-leb, lt-leb, leb-true}
 use Rattle.rules.specs.Text.{got, bad, afterKey, digit, moreDigits, readNumber, lineEnd}
-use Rattle.rules.proofs.Tests.{both-true}
+use Rattle.rules.proofs.Booleans.{both-true}
 
 -- bytes of length 0
 pub empty : (s : List ℕ) → length s ≡ 0 → s ≡ []

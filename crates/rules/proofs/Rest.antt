@@ -5,7 +5,8 @@ use native.Mathlib.Nat.{add-zero, zero-add}
 use native.Mathlib.Omega.{arith}
 use mathlib.Core.List.{List, _∷_}
 use lib.ListN.{length}
-use Rattle.rules.specs.Task.{Task, taskAt}
+use Rattle.rules.specs.Task.{taskAt}
+use Rattle.rules.specs.declared.Task.{Task}
 
 -- us are the tasks of ts from number k on
 pub record Rest (ts : List Task) (k : ℕ) (us : List Task) : Type 0 where

@@ -5,7 +5,8 @@ use Prim.Native.Nat.{ℕ, zero, suc, _+_}
 use mathlib.Core.List.{List, [], _∷_, List·Memᴰ, List·Memᴰ·head, List·Memᴰ·tail, List·Memᴰ·not-nil}
 use native.Mathlib.Omega.{arith}
 use lib.ListN.{length}
-use Rattle.rules.specs.Task.{Task, AllSound}
+use Rattle.rules.specs.Task.{AllSound}
+use Rattle.rules.specs.declared.Task.{Task}
 use Rattle.rules.specs.Dispatch.{Job, Row, without, ready, pick, rows, dispatch}
 use Rattle.rules.specs.Legal.{Legal}
 use Rattle.rules.proofs.Taken.{Taken, taken-mem, taken-length, taken-cases, Distinct, taken-distinct, without-taken}

@@ -7,7 +7,7 @@ use mathlib.Core.Option.{none, some}
 use lib.Dec.{eqb}
 use borrow.Author.Tests.{eqb-true, eqb-false}
 use Rattle.rules.specs.Choice.{least}
-use Rattle.rules.proofs.Tests.{true-is-not-false}
+use Rattle.rules.proofs.Booleans.{true-is-not-false}
 
 -- none of the numbers from k up to below e passes
 abbrev pub NonePasses : (ℕ → Bool) → ℕ → ℕ → Type 0

@@ -7,22 +7,25 @@ use mathlib.Core.List.{List, [], _∷_, _++_, append-nil, List·Memᴰ, List·Me
 use mathlib.Core.Bool.{Bool, true, false, _&&_}
 use lib.Dec.{leb, eqb}
 use lib.ListN.{length, drop, drop-of-length-le}
-use borrow.Author.Tests.{leb-true, eqb-true, ne-eqb, le-ltb}
+use borrow.Author.Tests.{leb-true, eqb-true}
 use Rattle.rules.specs.Choice.{least}
-use Rattle.rules.specs.Task.{Task, tasksOf, AllSound}
+use Rattle.rules.specs.Task.{tasksOf, AllSound}
+use Rattle.rules.specs.declared.Task.{Task}
 use Rattle.rules.specs.Table.{wordLeast, inRange, outOfRange, tableRefusal}
 use Rattle.rules.specs.Dispatch.{Row, finish, late, before, sooner, pick, same, without, earliest, ready, rows, dispatch, lateJob, rowWords}
-use Rattle.rules.specs.Jobs.{train, trains, countBefore, concreteTrain, concrete, countWithin, namedTrain, named}
-use Rattle.rules.specs.Demand.{horizon, due, Due, wait, Wait, fails, ceiling, work, closes, firstFail, span, firstWaiting, blocker, verdict}
-use Rattle.rules.specs.Answers.{endMost, scheduleRows, scheduleRefusal, isMisses, patternRows, patternRefusal, scheduleAnswer, scheduleBuffer, verdictAnswer, patternAnswer, patternBuffer}
+use Rattle.rules.specs.Jobs.{train, trains, countBefore, concreteTrain, planned, concrete, namedTrain}
+use Rattle.rules.specs.Numbers.{endMost, horizon}
+use Rattle.rules.specs.Demand.{countWithin, due, Due, wait, Wait, fails, ceiling, work, closes, firstFail, span, firstWaiting, blocker, verdict}
+use Rattle.rules.specs.Answers.{scheduleRows, isMisses, namedBy, patternRows, scheduleAnswer, scheduleBuffer, verdictAnswer, patternAnswer, patternBuffer}
 use Rattle.rules.specs.Stars.{set, Outcome, meets, misses, onTime, pattern, Star, stars, Right, Stars}
 use Rattle.rules.specs.declared.Blocker.{Blocker}
 use Rattle.rules.specs.declared.Verdict.{Verdict}
 use Rattle.rules.specs.declared.VerdictAnswer.{VerdictAnswer}
 use Rattle.rules.specs.declared.ScheduleAnswer.{ScheduleAnswer}
 use Rattle.rules.specs.declared.PatternAnswer.{PatternAnswer}
-use Rattle.rules.proofs.Tests.{both-true, true-is-not-false}
+use Rattle.rules.proofs.Booleans.{both-true, true-is-not-false}
 use Rattle.rules.proofs.Tables.{table-sound}
+use Rattle.rules.proofs.Calls.{counted, dispatch-rows, schedule-rows, pattern-rows}
 use Rattle.rules.proofs.Search.{found, none-found}
 use Rattle.rules.proofs.Least.{least-below}
 use Rattle.rules.proofs.Verdicts.{First, NoneIn, none-when, misses-when, meets-when}
@@ -139,25 +142,19 @@ filled xs out e = rw (drop-of-length-le out {i = length xs} (omega arith)) (appe
 module _ (w : List ℕ) (f : tableRefusal w ≡ none) (n : ℕ) (words out : List ℕ) (fits : length out ≡ length words) where
   schedule-right : (z : ℕ) → 1 ≤ z → z ≤ endMost → n ≡ length (scheduleRows w z) → rowWords (scheduleRows w z) ≡ words
       → lateJob (scheduleRows w z) ≡ none → (scheduleAnswer w z out ≡ ScheduleAnswer.OnTime n) × (scheduleBuffer w z out ≡ words)
-  unfolding scheduleAnswer scheduleBuffer scheduleRefusal
   schedule-right z low high e i l =
-      let r : scheduleRefusal w z out ≡ none =
-      (let m = length-rowWords (scheduleRows w z) in
+      let m = length-rowWords (scheduleRows w z) in
       let k = ap (λ (xs : List ℕ). length xs) i in
-      rw (f, ne-eqb z 0 (omega arith), le-ltb endMost z high, le-ltb (length out) (4 * length (scheduleRows w z)) (omega arith)))
-      in
-      (rw (r, l, e), rw (r, i) (filled words out fits))
+      let x = schedule-rows w z out f low high (dispatch-rows (concrete z (tasksOf w)) out (omega arith)) in
+      (sym (x .says) ∙ rw (l, e), sym (x .leaves) ∙ rw i (filled words out fits))
 
   pattern-right : isMisses (verdict (tasksOf w)) ≡ true → n ≡ length (patternRows w) → rowWords (patternRows w) ≡ words
       → (patternAnswer w out ≡ PatternAnswer.Rows n) × (patternBuffer w out ≡ words)
-  unfolding patternAnswer patternBuffer patternRefusal
-  pattern-right t e i =
-      let r : patternRefusal w out ≡ none =
-      (let m = length-rowWords (patternRows w) in
+  pattern-right v e i =
+      let m = length-rowWords (patternRows w) in
       let k = ap (λ (xs : List ℕ). length xs) i in
-      rw (f, t, le-ltb (length out) (4 * length (patternRows w)) (omega arith)))
-      in
-      (rw (r, e), rw (r, i) (filled words out fits))
+      let x = pattern-rows w out f v (dispatch-rows (namedBy (verdict (tasksOf w)) w) out (omega arith)) in
+      (sym (x .says) ∙ (counted (length (patternRows w)) (lateJob (patternRows w)) ∙ ap PatternAnswer.Rows (sym e)), sym (x .leaves) ∙ rw i (filled words out fits))
 
 -- a row that passes its tests is right
 right : (w : List ℕ) (o : Outcome) → tableRefusal w ≡ none → Each (tests w o) → Right w o
@@ -192,7 +189,7 @@ rows-right (r ∷ ss) e s (List·Memᴰ·tail m) = rows-right ss (both-true (eve
 
 -- they all pass
 table-passes : passes stars ≡ true
-unfolding tests wordLeast inRange outOfRange tableRefusal tasksOf least due Due wait Wait fails ceiling work closes firstFail span firstWaiting blocker verdict train trains countBefore concreteTrain concrete countWithin namedTrain named finish late before sooner pick same without earliest ready rows dispatch lateJob rowWords scheduleRows patternRows
+unfolding tests wordLeast inRange outOfRange tableRefusal tasksOf least due Due wait Wait fails ceiling work closes firstFail span firstWaiting blocker verdict train trains countBefore concreteTrain planned countWithin namedTrain finish late before sooner pick same without earliest ready rows dispatch lateJob rowWords
 table-passes = refl
 
 -- every star holds

@@ -11,12 +11,14 @@ use lib.ListN.{length, getD, drop, drop-of-length-le}
 use lib.Seq.{drop-cons}
 use borrow.Author.Tests.{leb-true, ltb-false, eqb-true, eqb-false, ne-eqb, not-false}
 use Rattle.rules.specs.Choice.{if_then_else_}
-use Rattle.rules.specs.Task.{Task, tasksOf, taskAt, AllSound}
+use Rattle.rules.specs.Task.{tasksOf, taskAt, AllSound}
+use Rattle.rules.specs.declared.Task.{Task}
 use Rattle.rules.specs.Refusals.{_when_, firstOf}
-use Rattle.rules.specs.Table.{wordMost, wordLeast, inRange, outOfRange, tableRefusal, taskIn, tasksFrom, Valid}
+use Rattle.rules.specs.Numbers.{taskMost, wordMost}
+use Rattle.rules.specs.Table.{wordLeast, inRange, outOfRange, tableRefusal, taskIn, tasksFrom, Valid}
 use Rattle.rules.specs.declared.Refusal.{Refusal}
 use Rattle.rules.specs.declared.Refusal.the-variants.{NoWord, NotFours, TooManyWords, OutOfRange}
-use Rattle.rules.proofs.Tests.{both-true}
+use Rattle.rules.proofs.Booleans.{both-true}
 
 -- a refusal is not none
 some-is-not-none : {A : Type 0} {r : Refusal} → _≡_ {A = Option Refusal} (some r) none → A

@@ -8,7 +8,7 @@ use lib.Dec.{eqb}
 use lib.ListN.{length}
 use Rattle.rules.specs.Choice.{if_then_else_}
 use Rattle.rules.specs.Dispatch.{Job, same, without}
-use Rattle.rules.proofs.Tests.{both, both-true, both-false, true-is-not-false}
+use Rattle.rules.proofs.Booleans.{both, both-true, both-false, true-is-not-false}
 
 -- what holds of the head and of every job of the tail holds of every job
 pub mem-cons : (P : Job → Type 0) {j : Job} {js : List Job} → P j → ((i : Job) → List·Memᴰ i js → P i)

@@ -5,9 +5,11 @@ use Prim.Native.Nat.{ℕ, zero, suc, _+_, _≤_, _<_}
 use native.Mathlib.Omega.{arith}
 use mathlib.Core.List.{List, [], _∷_, _++_, List·Memᴰ, List·Memᴰ·head, List·Memᴰ·tail, List·Memᴰ·not-nil, List·Memᴰ·append-cases}
 use lib.ListN.{length}
-use Rattle.rules.specs.Task.{Task, taskAt, AllSound}
+use Rattle.rules.specs.Task.{taskAt, AllSound}
+use Rattle.rules.specs.declared.Task.{Task}
 use Rattle.rules.specs.Dispatch.{Job}
-use Rattle.rules.specs.Jobs.{Train, train, trains}
+use Rattle.rules.specs.Jobs.{train, trains}
+use Rattle.rules.specs.declared.Train.{Train}
 use Rattle.rules.specs.Legal.{Apart, Legal}
 use Rattle.rules.proofs.Rest.{Rest, rest-all, rest-here, rest-next}
 use Rattle.rules.proofs.Legal.{taskAt-sound}

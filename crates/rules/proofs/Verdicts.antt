@@ -2,18 +2,20 @@
 use mathlib.Core.Path.{_≡_, refl, sym, ap, _∙_}
 use mathlib.Core.Logic.{_↔_, ⊎-elim}
 use Prim.Native.Nat.{ℕ, zero, suc, _+_, _-_, _*_, _/_, _≤_, _<_}
-use native.Mathlib.Nat.{le-trans, mul-le-mul-left, div-zero, le-div-iff-mul-le, div-mul-le-self}
+use native.Mathlib.Nat.{le-trans, mul-zero, mul-le-mul-left, div-zero, le-div-iff-mul-le, div-mul-le-self}
 use native.Mathlib.Omega.{arith}
 use mathlib.Core.List.{List, [], _∷_, List·Memᴰ·head, List·Memᴰ·tail}
 use mathlib.Core.Bool.{Bool, true, false}
 use mathlib.Core.Option.{Option, none, some}
 use borrow.Author.Tests.{leb-true, ltb-true, le-leb, lt-ltb, le-ltb, lt-leb}
 use Rattle.rules.specs.Choice.{least}
-use Rattle.rules.specs.Task.{Task, AllSound}
-use Rattle.rules.specs.Demand.{horizon, due, Due, wait, Wait, fails, ceiling, work, closes, firstFail, span, blocker, judge, verdict}
+use Rattle.rules.specs.Task.{AllSound}
+use Rattle.rules.specs.declared.Task.{Task}
+use Rattle.rules.specs.Numbers.{horizon}
+use Rattle.rules.specs.Demand.{countWithin, due, Due, wait, Wait, fails, ceiling, work, closes, firstFail, span, blocker, judge, verdict}
 use Rattle.rules.specs.declared.Blocker.{Blocker}
 use Rattle.rules.specs.declared.Verdict.{Verdict}
-use Rattle.rules.proofs.Tests.{both, both-true, true-is-not-false, lt-or-ge}
+use Rattle.rules.proofs.Booleans.{both, both-true, true-is-not-false, lt-or-ge}
 use Rattle.rules.proofs.Search.{found, finds, none-found, finds-none}
 
 -- x is the least number from 1 to H that passes
@@ -119,12 +121,12 @@ work-grows (τ ∷ ts) s t h = omega (arith, mul-le-mul-left (τ .C) (ceiling-gr
 
 -- one task's due and wait, by cases on its D
 pub due-in : (L : ℕ) (τ : Task) → τ .D ≤ L → due L τ ≡ τ .C * (1 + (L - τ .D) / τ .T)
-unfolding due
+unfolding due countWithin
 due-in L τ h = rw (le-leb (τ .D) L h)
 
 pub due-out : (L : ℕ) (τ : Task) → L < τ .D → due L τ ≡ 0
-unfolding due
-due-out L τ h = rw (lt-leb (τ .D) L h)
+unfolding due countWithin
+due-out L τ h = rw (lt-leb (τ .D) L h) (mul-zero (τ .C))
 
 pub wait-out : (L : ℕ) (τ : Task) → τ .D ≤ L → wait L τ ≡ 0
 unfolding wait

@@ -6,15 +6,16 @@ use mathlib.Core.Option.{Option, none, some}
 use lib.Dec.{ltb, eqb}
 use lib.ListN.{length}
 use Rattle.rules.specs.Task.{tasksOf}
-use Rattle.rules.specs.Refusals.{numberOf, _when_, firstOf, answering, lent}
+use Rattle.rules.specs.Numbers.{endMost}
+use Rattle.rules.specs.Refusals.{_when_, firstOf, answering, lent}
 use Rattle.rules.specs.Table.{tableRefusal}
 use Rattle.rules.specs.Dispatch.{Job, Row, dispatch, lateJob, rowWords}
 use Rattle.rules.specs.Jobs.{concrete, named}
 use Rattle.rules.specs.Demand.{verdict}
+use Rattle.rules.specs.Told.{numberTold, verdictTold}
 use Rattle.rules.specs.Text.{Lines, took, stop, readSet, wordsRead, restRead, writeSet}
 use Rattle.rules.specs.declared.Refusal.{Refusal}
 use Rattle.rules.specs.declared.Refusal.the-variants.{BadEnd, TooShort, BadLine, NotMisses}
-use Rattle.rules.specs.declared.Blocker.{Blocker}
 use Rattle.rules.specs.declared.Verdict.{Verdict}
 use Rattle.rules.specs.declared.ReadAnswer.{ReadAnswer}
 use Rattle.rules.specs.declared.WriteAnswer.{WriteAnswer}
@@ -56,12 +57,25 @@ writeAnswer table out = answering (writeRefusal table out) WriteAnswer.Refused (
 unfoldable pub writeBuffer : List ℕ → List ℕ → List ℕ
 writeBuffer table out = lent (writeRefusal table out) (writeSet table) out
 
--- THE CONCRETE SCHEDULE. Z is 1 to 100,000
-abbrev pub endMost : ℕ
-endMost = 100000
+-- THE DISPATCHER, of any jobs. Refusal 6
+unfoldable pub dispatchRefusal : List Job → List ℕ → Option Refusal
+dispatchRefusal js out = TooShort when ltb (length out) (4 * length (dispatch js))
 
--- its rows
-unfoldable pub scheduleRows : List ℕ → ℕ → List Row
+-- on time with the row count; or late, with the task, number and deadline of the late job whose deadline is least
+abbrev pub timing : ℕ → Option Job → ScheduleAnswer
+timing n none = ScheduleAnswer.OnTime n
+timing n (some j) = ScheduleAnswer.Late n (j .task) (j .number) (j .deadline)
+
+-- it answers that
+unfoldable pub dispatchAnswer : List Job → List ℕ → ScheduleAnswer
+dispatchAnswer js out = answering (dispatchRefusal js out) ScheduleAnswer.Refused (timing (length (dispatch js)) (lateJob (dispatch js)))
+
+-- and writes the rows to the start of the lent buffer
+unfoldable pub dispatchBuffer : List Job → List ℕ → List ℕ
+dispatchBuffer js out = lent (dispatchRefusal js out) (rowWords (dispatch js)) out
+
+-- THE CONCRETE SCHEDULE. Its rows
+abbrev pub scheduleRows : List ℕ → ℕ → List Row
 scheduleRows table z = dispatch (concrete z (tasksOf table))
 
 -- refusals 1, 2, 3, 4, 5, 6
@@ -70,15 +84,10 @@ scheduleRefusal table z out =
     firstOf
     (tableRefusal table
     ∷ (BadEnd when (eqb z 0 || ltb endMost z))
-    ∷ (TooShort when ltb (length out) (4 * length (scheduleRows table z)))
+    ∷ dispatchRefusal (concrete z (tasksOf table)) out
     ∷ [])
 
--- on time with the row count; or late, with the task, number and deadline of the late job whose deadline is least
-abbrev pub timing : ℕ → Option Job → ScheduleAnswer
-timing n none = ScheduleAnswer.OnTime n
-timing n (some j) = ScheduleAnswer.Late n (j .task) (j .number) (j .deadline)
-
--- it answers that
+-- it answers as the dispatcher does
 unfoldable pub scheduleAnswer : List ℕ → ℕ → List ℕ → ScheduleAnswer
 scheduleAnswer table z out =
     answering (scheduleRefusal table z out) ScheduleAnswer.Refused
@@ -91,23 +100,6 @@ scheduleBuffer table z out = lent (scheduleRefusal table z out) (rowWords (sched
 -- THE VERDICT. Refusals 1 to 4
 unfoldable pub verdictAnswer : List ℕ → VerdictAnswer
 verdictAnswer table = answering (tableRefusal table) VerdictAnswer.Refused (VerdictAnswer.Judged (verdict (tasksOf table)))
-
--- the number of each verdict for the C call
-abbrev pub verdictNumber : Verdict → ℕ
-verdictNumber (Verdict.Meets σ) = 100
-verdictNumber (Verdict.Misses L b) = 101
-verdictNumber Verdict.TooFar = 102
-
--- the value that a blocker carries: its task's number
-abbrev pub blockerValues : Blocker → List ℕ
-blockerValues (Blocker.Task k) = k ∷ []
-blockerValues Blocker.Nobody = []
-
--- the values that each verdict carries: the span; the length and the blocker; nothing
-abbrev pub verdictValues : Verdict → List ℕ
-verdictValues (Verdict.Meets σ) = σ ∷ []
-verdictValues (Verdict.Misses L b) = L ∷ blockerValues b
-verdictValues Verdict.TooFar = []
 
 -- THE PATTERN BEHIND A "MISSES"
 abbrev pub isMisses : Verdict → Bool
@@ -122,7 +114,7 @@ namedBy (Verdict.Misses L b) table = named L (tasksOf table)
 namedBy Verdict.TooFar table = []
 
 -- its rows
-unfoldable pub patternRows : List ℕ → List Row
+abbrev pub patternRows : List ℕ → List Row
 patternRows table = dispatch (namedBy (verdict (tasksOf table)) table)
 
 -- refusals 1, 2, 3, 4, 8, 6
@@ -131,8 +123,14 @@ patternRefusal table out =
     firstOf
     (tableRefusal table
     ∷ (NotMisses when not (isMisses (verdict (tasksOf table))))
-    ∷ (TooShort when ltb (length out) (4 * length (patternRows table)))
+    ∷ dispatchRefusal (namedBy (verdict (tasksOf table)) table) out
     ∷ [])
+
+-- the row count in a dispatcher's answer
+abbrev pub rowsOf : ScheduleAnswer → PatternAnswer
+rowsOf (ScheduleAnswer.OnTime n) = PatternAnswer.Rows n
+rowsOf (ScheduleAnswer.Late n k q d) = PatternAnswer.Rows n
+rowsOf (ScheduleAnswer.Refused r) = PatternAnswer.Refused r
 
 -- it answers the row count
 unfoldable pub patternAnswer : List ℕ → List ℕ → PatternAnswer
@@ -142,10 +140,15 @@ patternAnswer table out = answering (patternRefusal table out) PatternAnswer.Ref
 unfoldable pub patternBuffer : List ℕ → List ℕ → List ℕ
 patternBuffer table out = lent (patternRefusal table out) (rowWords (patternRows table)) out
 
--- THE C CALL. The refusal of the reading or of the table, at once
-unfoldable pub checkRefusal : List ℕ → Option Refusal
-checkRefusal text = firstOf (lineRefusal (readSet text) ∷ tableRefusal (wordsRead (readSet text)) ∷ [])
+-- THE FIRST SET OF A TEXT. The refusal of the reading or of the table, at once
+unfoldable pub firstRefusal : List ℕ → Option Refusal
+firstRefusal text = firstOf (lineRefusal (readSet text) ∷ tableRefusal (wordsRead (readSet text)) ∷ [])
 
--- one number: 100, 101 or 102 for the first set, or the refusal's
+-- what is said of it: that refusal, or the verdict
+unfoldable pub firstAnswer : List ℕ → VerdictAnswer
+firstAnswer text =
+    answering (firstRefusal text) VerdictAnswer.Refused (VerdictAnswer.Judged (verdict (tasksOf (wordsRead (readSet text)))))
+
+-- THE C CALL. One number: 100, 101 or 102 for the first set, or the refusal's
 unfoldable pub checkNumber : List ℕ → ℕ
-checkNumber text = answering (checkRefusal text) numberOf (verdictNumber (verdict (tasksOf (wordsRead (readSet text)))))
+checkNumber text = numberTold (verdictTold (firstAnswer text))

@@ -2,7 +2,8 @@
 use mathlib.Core.Path.{_≡_}
 use Prim.Native.Nat.{ℕ}
 use mathlib.Core.List.{List}
-use Rattle.rules.specs.Answers.{readAnswer, readTable, readRest, writeAnswer, writeBuffer, scheduleAnswer, scheduleBuffer, patternAnswer, patternBuffer}
+use Rattle.rules.specs.Dispatch.{Job}
+use Rattle.rules.specs.Answers.{readAnswer, readTable, readRest, writeAnswer, writeBuffer, dispatchAnswer, dispatchBuffer, scheduleAnswer, scheduleBuffer, patternAnswer, patternBuffer}
 use Rattle.rules.specs.Report.{reportAnswer, reportBuffer}
 use Rattle.rules.specs.declared.ReadAnswer.{ReadAnswer}
 use Rattle.rules.specs.declared.WriteAnswer.{WriteAnswer}
@@ -20,6 +21,11 @@ pub record Reads (text table : List ℕ) (answer : ReadAnswer) (rest exit : List
 pub record Writes (table out : List ℕ) (answer : WriteAnswer) (exit : List ℕ) : Type 0 where
   pub says : answer ≡ writeAnswer table out
   pub leaves : exit ≡ writeBuffer table out
+
+-- the dispatcher, of any jobs: its answer and the lent rows
+pub record Dispatches (js : List Job) (out : List ℕ) (answer : ScheduleAnswer) (exit : List ℕ) : Type 0 where
+  pub says : answer ≡ dispatchAnswer js out
+  pub leaves : exit ≡ dispatchBuffer js out
 
 -- the concrete schedule: its answer and the lent rows
 pub record Schedules (table : List ℕ) (z : ℕ) (out : List ℕ) (answer : ScheduleAnswer) (exit : List ℕ) : Type 0 where

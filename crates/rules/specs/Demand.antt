@@ -1,21 +1,24 @@
 -- The verdict over all arrivals. Document 01, "The verdict over all arrivals".
-use Prim.Native.Nat.{ℕ, suc, _+_, _-_, _*_, _/_, max}
+use Prim.Native.Nat.{ℕ, suc, _+_, _-_, _*_, _/_, max, _≤_, _<_}
 use mathlib.Core.List.{List, [], _∷_}
 use mathlib.Core.Bool.{Bool, _&&_}
 use mathlib.Core.Option.{Option, none, some}
 use lib.Dec.{leb, ltb, eqb}
+use lib.ListN.{length}
 use Rattle.rules.specs.Choice.{if_then_else_, least}
-use Rattle.rules.specs.Task.{Task}
+use Rattle.rules.specs.Numbers.{horizon}
+use Rattle.rules.specs.Task.{taskAt}
+use Rattle.rules.specs.declared.Task.{Task}
 use Rattle.rules.specs.declared.Blocker.{Blocker}
 use Rattle.rules.specs.declared.Verdict.{Verdict}
 
--- the horizon H
-abbrev pub horizon : ℕ
-horizon = 100000
+-- how many jobs a task has due within a length: 1 + the whole part of (L − D) / T where D is at most L
+unfoldable pub countWithin : ℕ → Task → ℕ
+countWithin L τ = if leb (τ .D) L then 1 + (L - τ .D) / τ .T else 0
 
--- what one task has due within a length: C × (1 + the whole part of (L − D) / T) where D is at most L
+-- what one task has due within a length: C × that
 unfoldable pub due : ℕ → Task → ℕ
-due L τ = if leb (τ .D) L then τ .C * (1 + (L - τ .D) / τ .T) else 0
+due L τ = τ .C * countWithin L τ
 
 -- Due(L): the sum over the tasks
 unfoldable pub Due : ℕ → List Task → ℕ
@@ -64,6 +67,13 @@ firstWaiting W L k (τ ∷ ts) = if ltb L (τ .D) && eqb (τ .C - 1) W then k el
 -- the blocker: the lowest-numbered task with the greatest C among those with D above L, if Wait(L) is above 0
 unfoldable pub blocker : ℕ → List Task → Blocker
 blocker L ts = if ltb 0 (Wait L ts) then Blocker.Task (firstWaiting (Wait L ts) L 0 ts) else Blocker.Nobody
+
+-- the lowest-numbered task with the greatest C among those with D above L, in the paper's words
+pub record Blocks (L : ℕ) (ts : List Task) (b : ℕ) : Type 0 where
+  pub known : b < length ts
+  pub above : L < taskAt ts b .D
+  pub greatest : (k : ℕ) → k < length ts → L < taskAt ts k .D → taskAt ts k .C ≤ taskAt ts b .C
+  pub lowest : (k : ℕ) → k < b → L < taskAt ts k .D → taskAt ts k .C < taskAt ts b .C
 
 -- misses with the least L that fails; else meets with the span; else too far
 abbrev pub judge : Option ℕ → Option ℕ → List Task → Verdict

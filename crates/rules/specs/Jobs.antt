@@ -2,23 +2,20 @@
 -- Document 01, "Dispatch" (job q of a task) and "The named pattern".
 use Prim.Native.Nat.{ℕ, zero, suc, _+_, _-_, _/_}
 use mathlib.Core.List.{List, [], _∷_, _++_}
-use lib.Dec.{leb, ltb, eqb}
+use lib.Dec.{ltb, eqb}
 use Rattle.rules.specs.Choice.{if_then_else_}
-use Rattle.rules.specs.Task.{Task}
+use Rattle.rules.specs.declared.Task.{Task}
 use Rattle.rules.specs.Dispatch.{Job}
-use Rattle.rules.specs.Demand.{blocker}
+use Rattle.rules.specs.Demand.{countWithin, blocker}
 use Rattle.rules.specs.declared.Blocker.{Blocker}
+use Rattle.rules.specs.declared.Train.{Train}
+use Rattle.rules.specs.declared.Plan.{Plan}
 
 -- n jobs of task number k, the first being number q and released at r, each a period after the one before; all run for C
 unfoldable pub train : ℕ → ℕ → ℕ → ℕ → Task → List Job
 train zero q r k τ = []
 train (suc n) q r k τ =
     record { task = k; number = q; release = r; deadline = r + τ .D; run = τ .C } ∷ train n (suc q) (r + τ .T) k τ
-
--- a task's train: the first release and how many jobs
-pub record Train : Type 0 where
-  pub first : ℕ
-  pub count : ℕ
 
 -- for each task in order, numbered from k on, its train
 unfoldable pub trains : (ℕ → Task → Train) → ℕ → List Task → List Job
@@ -33,20 +30,25 @@ countBefore Z τ = if ltb (τ .R) Z then 1 + (Z - 1 - τ .R) / τ .T else 0
 unfoldable pub concreteTrain : ℕ → ℕ → Task → Train
 concreteTrain Z k τ = record { first = τ .R; count = countBefore Z τ }
 
--- the jobs of the concrete schedule
-unfoldable pub concrete : ℕ → List Task → List Job
-concrete Z ts = trains (concreteTrain Z) 0 ts
-
--- how many of r, r + T, r + 2T .. are releases with a deadline of at most r + L
-unfoldable pub countWithin : ℕ → Task → ℕ
-countWithin L τ = if leb (τ .D) L then 1 + (L - τ .D) / τ .T else 0
-
--- with a blocker: it is released at 0, and each task with D at most L at 1, 1 + T .. while the deadline is at most L + 1;
+-- the named pattern. With a blocker: it is released at 0, and each task with D at most L at 1, 1 + T .. while the deadline is at most L + 1;
 -- without one, each task with D at most L at 0, T .. while the deadline is at most L
 unfoldable pub namedTrain : ℕ → Blocker → ℕ → Task → Train
 namedTrain L (Blocker.Task b) k τ = if eqb k b then record { first = 0; count = 1 } else record { first = 1; count = countWithin L τ }
 namedTrain L Blocker.Nobody k τ = record { first = 0; count = countWithin L τ }
 
+-- the train of a task of number k under a plan
+abbrev pub planTrain : Plan → ℕ → Task → Train
+planTrain (Plan.Concrete Z) k τ = concreteTrain Z k τ
+planTrain (Plan.Named L b) k τ = namedTrain L b k τ
+
+-- the jobs of the tasks under a plan
+unfoldable pub planned : Plan → List Task → List Job
+planned p ts = trains (planTrain p) 0 ts
+
+-- the jobs of the concrete schedule
+abbrev pub concrete : ℕ → List Task → List Job
+concrete Z ts = planned (Plan.Concrete Z) ts
+
 -- the jobs of the named pattern of a length
-unfoldable pub named : ℕ → List Task → List Job
-named L ts = trains (namedTrain L (blocker L ts)) 0 ts
+abbrev pub named : ℕ → List Task → List Job
+named L ts = planned (Plan.Named L (blocker L ts)) ts

@@ -3,7 +3,8 @@ use mathlib.Core.Path.{_≡_}
 use Prim.Native.Nat.{_+_, _-_, max, min, _≤_, _<_}
 use mathlib.Core.List.{List, [], _∷_, List·Memᴰ}
 use lib.ListN.{length}
-use Rattle.rules.specs.Task.{Task, taskAt}
+use Rattle.rules.specs.Task.{taskAt}
+use Rattle.rules.specs.declared.Task.{Task}
 use Rattle.rules.specs.Dispatch.{Job}
 
 -- a job of one of the tasks, released at tick 0 or later: due D after its release, with a run time from 1 to C

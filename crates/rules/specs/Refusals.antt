@@ -3,35 +3,43 @@ use Prim.Native.Nat.{ℕ}
 use mathlib.Core.List.{List, [], _∷_, _++_}
 use mathlib.Core.Bool.{Bool, true, false}
 use mathlib.Core.Option.{Option, none, some}
-use lib.ListN.{length, drop, getD}
+use lib.ListN.{length, drop}
+use Rattle.rules.specs.Text.{bytes, digits, line}
 use Rattle.rules.specs.declared.Refusal.{Refusal}
 use Rattle.rules.specs.declared.Refusal.the-variants.{NoWord, NotFours, TooManyWords, OutOfRange, BadEnd, TooShort, BadLine, NotMisses}
+use Rattle.rules.specs.declared.Carried.{Carried}
 
--- the number of each case
+-- a refusal's entry: its number, and what it carries
+pub record Entry : Type 0 where
+  pub number : ℕ
+  pub carries : Carried
+
+-- THE TABLE: of each refusal its number and what it carries; 4 carries the index of the word, 7 the number of the line
+abbrev pub entry : Refusal → Entry
+entry NoWord = record { number = 1; carries = Carried.Nothing }
+entry NotFours = record { number = 2; carries = Carried.Nothing }
+entry TooManyWords = record { number = 3; carries = Carried.Nothing }
+entry (OutOfRange i) = record { number = 4; carries = Carried.Word i }
+entry BadEnd = record { number = 5; carries = Carried.Nothing }
+entry TooShort = record { number = 6; carries = Carried.Nothing }
+entry (BadLine l) = record { number = 7; carries = Carried.Line l }
+entry NotMisses = record { number = 8; carries = Carried.Nothing }
+
+-- a refusal's number
 abbrev pub numberOf : Refusal → ℕ
-numberOf NoWord = 1
-numberOf NotFours = 2
-numberOf TooManyWords = 3
-numberOf (OutOfRange i) = 4
-numberOf BadEnd = 5
-numberOf TooShort = 6
-numberOf (BadLine l) = 7
-numberOf NotMisses = 8
+numberOf r = entry r .number
 
--- the values that each case carries: 4 the index of the word, 7 the number of the line
-abbrev pub carriedBy : Refusal → List ℕ
-carriedBy NoWord = []
-carriedBy NotFours = []
-carriedBy TooManyWords = []
-carriedBy (OutOfRange i) = i ∷ []
-carriedBy BadEnd = []
-carriedBy TooShort = []
-carriedBy (BadLine l) = l ∷ []
-carriedBy NotMisses = []
+-- what is carried, as values
+abbrev pub carriedValues : Carried → List ℕ
+carriedValues Carried.Nothing = []
+carriedValues (Carried.Word i) = i ∷ []
+carriedValues (Carried.Line l) = l ∷ []
 
--- that value alone, 0 where there is none
-abbrev pub valueOf : Refusal → ℕ
-valueOf r = getD (carriedBy r) 0 0
+-- what is carried, as a line of the program's output
+abbrev pub carriedLine : Carried → List ℕ
+carriedLine Carried.Nothing = []
+carriedLine (Carried.Word i) = line (bytes "word=") (digits i)
+carriedLine (Carried.Line l) = line (bytes "line=") (digits l)
 
 infix 15 _when_
 -- a refusal, given exactly when its test holds

@@ -1,24 +1,20 @@
 -- What the program prints. Document 01, "The program and the C call".
 use Prim.Native.Nat.{ℕ, zero, suc}
 use mathlib.Core.List.{List, [], _∷_, _++_}
-use mathlib.Core.Option.{Option, none}
+use mathlib.Core.Option.{Option}
 use lib.Dec.{ltb, eqb}
 use lib.ListN.{length}
 use Rattle.rules.specs.Choice.{if_then_else_}
-use Rattle.rules.specs.Task.{tasksOf}
-use Rattle.rules.specs.Refusals.{numberOf, _when_, answering, lent}
-use Rattle.rules.specs.Demand.{verdict}
-use Rattle.rules.specs.Text.{bytes, digits, line, readSet, wordsRead, restRead}
-use Rattle.rules.specs.Answers.{checkRefusal}
+use Rattle.rules.specs.Numbers.{inputMost}
+use Rattle.rules.specs.Refusals.{entry, carriedLine, _when_, answering, lent}
+use Rattle.rules.specs.Text.{bytes, digits, line, readSet, restRead}
+use Rattle.rules.specs.Answers.{firstAnswer}
 use Rattle.rules.specs.declared.Refusal.{Refusal}
-use Rattle.rules.specs.declared.Refusal.the-variants.{NoWord, NotFours, TooManyWords, OutOfRange, BadEnd, TooShort, BadLine, NotMisses}
+use Rattle.rules.specs.declared.Refusal.the-variants.{TooShort}
 use Rattle.rules.specs.declared.Blocker.{Blocker}
 use Rattle.rules.specs.declared.Verdict.{Verdict}
+use Rattle.rules.specs.declared.VerdictAnswer.{VerdictAnswer}
 use Rattle.rules.specs.declared.ReportAnswer.{ReportAnswer}
-
--- the longest input
-abbrev pub inputMost : ℕ
-inputMost = 32768
 
 -- a task number or none
 abbrev pub blockerWord : Blocker → List ℕ
@@ -32,26 +28,18 @@ verdictLines (Verdict.Misses L b) =
     line (bytes "verdict=") (bytes "misses") ++ (line (bytes "length=") (digits L) ++ line (bytes "blocker=") (blockerWord b))
 verdictLines Verdict.TooFar = line (bytes "verdict=") (bytes "toofar")
 
--- the line of what a refusal carries
-abbrev pub carriedLine : Refusal → List ℕ
-carriedLine NoWord = []
-carriedLine NotFours = []
-carriedLine TooManyWords = []
-carriedLine (OutOfRange i) = line (bytes "word=") (digits i)
-carriedLine BadEnd = []
-carriedLine TooShort = []
-carriedLine (BadLine l) = line (bytes "line=") (digits l)
-carriedLine NotMisses = []
-
--- the lines of a refusal
+-- the lines of a refusal: its number, and what it carries
 abbrev pub refusalLines : Refusal → List ℕ
-refusalLines r = line (bytes "refused=") (digits (numberOf r)) ++ carriedLine r
+refusalLines r = line (bytes "refused=") (digits (entry r .number)) ++ carriedLine (entry r .carries)
+
+-- the lines of an answer
+abbrev pub answerLines : VerdictAnswer → List ℕ
+answerLines (VerdictAnswer.Judged v) = verdictLines v
+answerLines (VerdictAnswer.Refused r) = refusalLines r
 
 -- the lines for the first set of a text, as set number n
 unfoldable pub setLines : ℕ → List ℕ → List ℕ
-setLines n text =
-    line (bytes "set=") (digits n)
-    ++ answering (checkRefusal text) refusalLines (verdictLines (verdict (tasksOf (wordsRead (readSet text)))))
+setLines n text = line (bytes "set=") (digits n) ++ answerLines (firstAnswer text)
 
 -- what is left to read after it: nothing after a 7, which stops the run
 unfoldable pub setRest : List ℕ → List ℕ

@@ -7,15 +7,12 @@ use mathlib.Core.Option.{Option, none, some}
 use lib.Dec.{leb, ltb, eqb}
 use lib.ListN.{length, getD}
 use Rattle.rules.specs.Choice.{if_then_else_}
-use Rattle.rules.specs.Task.{Task}
+use Rattle.rules.specs.Numbers.{taskMost, tableMost, wordMost}
+use Rattle.rules.specs.declared.Task.{Task}
 use Rattle.rules.specs.Refusals.{_when_, firstOf, answering}
 use Rattle.rules.specs.declared.Refusal.{Refusal}
 use Rattle.rules.specs.declared.Refusal.the-variants.{NoWord, NotFours, TooManyWords, OutOfRange}
 use Rattle.rules.specs.declared.TableAnswer.{TableAnswer}
-
--- the greatest value of a word
-abbrev pub wordMost : ℕ
-wordMost = 65535
 
 -- the least value of the word at an index: C, D and T are 1 or more, R may be 0
 unfoldable pub wordLeast : ℕ → ℕ
@@ -36,13 +33,31 @@ tableRefusal w =
     firstOf
     ((NoWord when eqb (length w) 0)
     ∷ (NotFours when not (eqb (length w % 4) 0))
-    ∷ (TooManyWords when ltb 256 (length w))
+    ∷ (TooManyWords when ltb tableMost (length w))
     ∷ outOfRange 0 w
     ∷ [])
 
 -- whether a table is one
 unfoldable pub tableAnswer : List ℕ → TableAnswer
 tableAnswer w = answering (tableRefusal w) TableAnswer.Refused TableAnswer.Fine
+
+-- a word at an index is in its range: C, D and T are 1 to 65,535, R is 0 to 65,535
+pub record Ranged (i x : ℕ) : Type 0 where
+  pub low : i % 4 < 3 → 1 ≤ x
+  pub high : x ≤ 65535
+
+-- the word at index i is the first out of its range
+pub record FirstOut (w : List ℕ) (i : ℕ) : Type 0 where
+  pub known : i < length w
+  pub out : Ranged i (getD w i 0) → ⊥
+  pub before : (k : ℕ) → k < i → Ranged k (getD w k 0)
+
+-- a table that is one: 1 to 64 tasks of four words, every word in its range
+pub record Fine (w : List ℕ) : Type 0 where
+  pub some-word : length w ≡ 0 → ⊥
+  pub fours : length w % 4 ≡ 0
+  pub few : length w ≤ 256
+  pub ranged : (i : ℕ) → i < length w → Ranged i (getD w i 0)
 
 -- the task of number i, by the words of a table
 abbrev pub taskIn : List ℕ → ℕ → Task
@@ -57,11 +72,11 @@ tasksFrom w (suc n) k = taskIn w k ∷ tasksFrom w n (suc k)
 pub record Valid (w : List ℕ) (m : ℕ) : Type 0 where
   pub words : length w ≡ 4 * m
   pub some-task : 1 ≤ m
-  pub most-tasks : m ≤ 64
+  pub most-tasks : m ≤ taskMost
   pub C-low : (i : ℕ) → i < m → 1 ≤ getD w (4 * i) 0
   pub D-low : (i : ℕ) → i < m → 1 ≤ getD w (4 * i + 1) 0
   pub T-low : (i : ℕ) → i < m → 1 ≤ getD w (4 * i + 2) 0
-  pub high : (i : ℕ) → i < 4 * m → getD w i 0 ≤ 65535
+  pub high : (i : ℕ) → i < 4 * m → getD w i 0 ≤ wordMost
 
 -- how many tasks a table has
 abbrev pub taskCount : List ℕ → ℕ

@@ -2,13 +2,7 @@
 use Prim.Native.Nat.{ℕ, _≤_}
 use mathlib.Core.List.{List, [], _∷_, List·Memᴰ}
 use lib.ListN.{getD}
-
--- a task: execution, relative deadline, least period, first release
-pub record Task : Type 0 where
-  pub C : ℕ
-  pub D : ℕ
-  pub T : ℕ
-  pub R : ℕ
+use Rattle.rules.specs.declared.Task.{Task}
 
 -- a table holds four words a task, in the order C, D, T, R; what is left over is no task
 unfoldable pub tasksOf : List ℕ → List Task

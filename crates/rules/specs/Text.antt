@@ -8,6 +8,7 @@ use mathlib.Core.Option.{Option, none, some}
 use lib.Dec.{leb, ltb, eqb}
 use lib.ListN.{length}
 use Rattle.rules.specs.Choice.{if_then_else_}
+use Rattle.rules.specs.Numbers.{taskMost}
 
 -- the bytes of a text in plain letters
 abbrev pub bytes : String → List ℕ
@@ -88,7 +89,7 @@ readLines (suc n) k s = orStop (2 + k) (readLine (keyOf (k % 4)) s) (λ v rest. 
 
 -- the tasks line with its count, 1 to 64, then four lines a task
 unfoldable pub readSet : List ℕ → Lines
-readSet s = orStop 1 (readLine tasksKey s) (λ n rest. if leb 1 n && leb n 64 then readLines (4 * n) 0 rest else stop 1)
+readSet s = orStop 1 (readLine tasksKey s) (λ n rest. if leb 1 n && leb n taskMost then readLines (4 * n) 0 rest else stop 1)
 
 -- the words that were read
 abbrev pub wordsRead : Lines → List ℕ

@@ -1,6 +1,27 @@
-// The answers of every call. Document 01 as definitions over them stands in specs/.
+// What the calls take and answer. Document 01 as definitions over these types stands in specs/.
 
-// Why a call is refused; specs/Refusals.antt gives each case its number and the values that it carries.
+// A task: execution, relative deadline, least period, first release.
+pub struct Task {
+    pub C: u32,
+    pub D: u32,
+    pub T: u32,
+    pub R: u32,
+}
+
+// A task's train of jobs: its first release, and how many there are, each a period after the one before.
+pub struct Train {
+    pub first: u32,
+    pub count: u32,
+}
+
+// Which trains the tasks of a table have: those of the concrete schedule to an end tick; or those of the pattern that a length names, with its
+// blocker.
+pub enum Plan {
+    Concrete(u32),
+    Named(u32, Blocker),
+}
+
+// Why a call is refused; specs/Refusals.antt is the table of their numbers and of what they carry.
 pub enum Refusal {
     NoWord,
     NotFours,
@@ -10,6 +31,13 @@ pub enum Refusal {
     TooShort,
     BadLine(u32),
     NotMisses,
+}
+
+// What a refusal carries: nothing, the index of a word, or the number of a line.
+pub enum Carried {
+    Nothing,
+    Word(u32),
+    Line(u32),
 }
 
 // The task that holds the tile before a length that fails.

@@ -6,7 +6,7 @@ use native.Mathlib.Omega.{arith}
 use mathlib.Core.List.{List}
 use lib.ListN.{length}
 use borrow.Author.Tests.{lt-ltb, le-ltb}
-use Rattle.rules.specs.Task.{Task}
+use Rattle.rules.specs.declared.Task.{Task}
 use Rattle.rules.specs.Jobs.{countBefore, concreteTrain, concrete}
 use Rattle.rules.specs.Answers.{scheduleRows}
 use Rattle.dispatch.specs.Plan.{plannedRows, Filled}

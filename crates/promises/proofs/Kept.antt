@@ -23,7 +23,8 @@ use Rattle.rules.proofs.Verdicts.{First, misses-when, meets-when, too-far-when,
 use Rattle.rules.proofs.Meets.{meets}
 use Rattle.rules.proofs.Misses.{misses}
 use Rattle.rules.proofs.Least.{least-below}
-use Rattle.promises.specs.Demands.{InTime, MakesLate, Least, Condition, Kept, KeptBy, TrueOfEveryPattern}
+use Rattle.promises.specs.Tables.{Least}
+use Rattle.promises.specs.Demands.{InTime, MakesLate, Condition, Kept, KeptBy, TrueOfEveryPattern}
 use Rattle.promises.specs.Sharper.{Sharper}
 use Rattle.promises.proofs.Whole.{legal-whole}
 

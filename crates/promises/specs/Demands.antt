@@ -1,25 +1,27 @@
 -- The three demands on one page, over the definitions and the calls' contracts of rules/specs.
 use mathlib.Core.Path.{_≡_}
 use mathlib.Core.Logic.{_↔_}
-use Prim.Native.Nat.{ℕ, _+_, _*_, _/_, _≤_, _<_}
+use Prim.Native.Nat.{ℕ, _+_, _≤_, _<_}
 use mathlib.Core.List.{List, [], _∷_, _++_, List·Memᴰ}
-use mathlib.Core.Bool.{Bool, true, false}
+use mathlib.Core.Bool.{true, false}
 use mathlib.Core.Option.{none, some}
-use lib.ListN.{length, drop}
+use lib.ListN.{length}
 use Rattle.rules.specs.Choice.{if_then_else_}
-use Rattle.rules.specs.Task.{tasksOf, taskAt, AllSound}
 use Rattle.rules.specs.declared.Task.{Task}
+use Rattle.rules.specs.Task.{tasksOf, taskAt, AllSound}
 use Rattle.rules.specs.Refusals.{numberOf}
-use Rattle.rules.specs.Table.{tableRefusal}
-use Rattle.rules.specs.Dispatch.{Job, Row, late, same, dispatch, lateJob, rowWords}
-use Rattle.rules.specs.Jobs.{concrete, named}
+use Rattle.rules.specs.Table.{tableRefusal, FirstOut, Fine}
+use Rattle.rules.specs.Told.{Told, readTold, writeTold, scheduleTold, verdictTold, patternTold, reportTold}
+use Rattle.rules.specs.Dispatch.{Job, Row, late, same, dispatch, lateJob}
+use Rattle.rules.specs.Policy.{Obeys, NamedLate}
+use Rattle.rules.specs.Jobs.{OnTrain, concrete, named}
 use Rattle.rules.specs.Legal.{Legal}
-use Rattle.rules.specs.Demand.{fails, closes, blocker, verdict}
-use Rattle.rules.specs.Text.{took, readSet, writeSet}
-use Rattle.rules.specs.Answers.{timing, verdictAnswer, checkNumber}
+use Rattle.rules.specs.Demand.{Wait, fails, closes, blocker, Blocks, verdict}
+use Rattle.rules.specs.Text.{bytes, took, stop, readSet, writeSet}
+use Rattle.rules.specs.Answers.{readAnswer, readTable, readRest, writeAnswer, writeBuffer, scheduleAnswer, scheduleBuffer, verdictAnswer, patternAnswer, patternBuffer, firstAnswer, checkNumber}
+use Rattle.rules.specs.Report.{reportAnswer, reportBuffer, output}
 use Rattle.rules.specs.Calls.{Reads, Writes, Schedules, Shows, Reports}
 use Rattle.rules.specs.declared.Refusal.{Refusal}
-use Rattle.rules.specs.declared.Blocker.{Blocker}
 use Rattle.rules.specs.declared.Verdict.{Verdict}
 use Rattle.rules.specs.declared.ReadAnswer.{ReadAnswer}
 use Rattle.rules.specs.declared.WriteAnswer.{WriteAnswer}
@@ -27,6 +29,7 @@ use Rattle.rules.specs.declared.ScheduleAnswer.{ScheduleAnswer}
 use Rattle.rules.specs.declared.VerdictAnswer.{VerdictAnswer}
 use Rattle.rules.specs.declared.PatternAnswer.{PatternAnswer}
 use Rattle.rules.specs.declared.ReportAnswer.{ReportAnswer}
+use Rattle.promises.specs.Tables.{Least, None, ReaderTells, WriterTells, ScheduleTells, JudgeTells, PatternTells, FirstTells, ReportTells, Run}
 
 -- 1. ANY INPUT ENDS WELL. Any table, any text, any lent buffer gets an answer or a numbered refusal. A refusal changes no lent buffer.
 
@@ -56,6 +59,44 @@ pub record Untouched : Type 0 where
   pub reporting : (number : ℕ) (text out exit : List ℕ) (r : Refusal) → Reports number text out (ReportAnswer.Refused r) exit → exit ≡ out
 
 -- 2. THE NUMBERS ARE THE PAPER'S. Rows, late job, verdict and text each equal a definition.
+
+-- each call tells and leaves what the paper's tables say (Tables.antt): what it gives stands in its table, and whatever stands there it gives
+pub record PaperNumbers : Type 0 where
+  pub reading : (text table : List ℕ) (t : Told) (rest exit : List ℕ)
+      → ((readTold (readAnswer text table) ≡ t) × (readRest text table ≡ rest) × (readTable text table ≡ exit)) ↔ ReaderTells text table t rest exit
+  pub writing : (table out : List ℕ) (t : Told) (exit : List ℕ)
+      → ((writeTold (writeAnswer table out) ≡ t) × (writeBuffer table out ≡ exit)) ↔ WriterTells table out t exit
+  pub scheduling : (table : List ℕ) (z : ℕ) (out : List ℕ) (t : Told) (exit : List ℕ)
+      → ((scheduleTold (scheduleAnswer table z out) ≡ t) × (scheduleBuffer table z out ≡ exit)) ↔ ScheduleTells table z out t exit
+  pub judging : (table : List ℕ) (t : Told) → (verdictTold (verdictAnswer table) ≡ t) ↔ JudgeTells table t
+  pub showing : (table out : List ℕ) (t : Told) (exit : List ℕ)
+      → ((patternTold (patternAnswer table out) ≡ t) × (patternBuffer table out ≡ exit)) ↔ PatternTells table out t exit
+  pub first : (text : List ℕ) (t : Told) → (verdictTold (firstAnswer text) ≡ t) ↔ FirstTells text t
+  pub reporting : (n : ℕ) (text out : List ℕ) (t : Told) (exit : List ℕ)
+      → ((reportTold (reportAnswer n text out) ≡ t) × (reportBuffer n text out ≡ exit)) ↔ ReportTells n text out t exit
+  pub too-long : (input : List ℕ) → 32768 < length input → output input ≡ bytes "toolong" ++ (10 ∷ [])
+  pub printing : (input printed : List ℕ) → length input ≤ 32768 → (output input ≡ printed) ↔ Run 1 input printed
+
+-- the dispatcher: the rows of a legal pattern obey the rules of document 01, and whatever obeys them is these rows; the late job named is late,
+-- and no late job has a lesser deadline, or an equal one and a lower task
+pub record Dispatcher : Type 0 where
+  pub rules : (ts : List Task) → AllSound ts → (js : List Job) → Legal ts js → (ws : List Row) → Obeys 0 js ws ↔ (ws ≡ dispatch js)
+  pub none-late : (ws : List Row) → (lateJob ws ≡ none) ↔ ((w : Row) → List·Memᴰ w ws → late w ≡ false)
+  pub late-job : (ws : List Row) (j : Job) → lateJob ws ≡ some j → (w : Row) × NamedLate ws w × (w .job ≡ j)
+
+-- the jobs: in the concrete schedule those of each task from R on that are released before Z; in the named pattern of L without a blocker those
+-- from 0 on that are due by L; with one, its own at 0, and those of the other tasks from 1 on that are due by L + 1
+pub record JobLists (ts : List Task) : Type 0 where
+  pub concrete-legal : (z : ℕ) → Legal ts (concrete z ts)
+  pub named-legal : (L : ℕ) → Legal ts (named L ts)
+  pub concrete-jobs : (z : ℕ) (j : Job)
+      → List·Memᴰ j (concrete z ts) ↔ ((j .task < length ts) × (j .release < z) × OnTrain (taskAt ts (j .task) .R) (taskAt ts (j .task)) j)
+  pub named-alone : (L : ℕ) (j : Job) → Wait L ts ≡ 0
+      → List·Memᴰ j (named L ts) ↔ ((j .task < length ts) × (j .deadline ≤ L) × OnTrain 0 (taskAt ts (j .task)) j)
+  pub named-blocker : (L : ℕ) (j : Job) → 0 < Wait L ts → Blocks L ts (j .task)
+      → List·Memᴰ j (named L ts) ↔ ((j .number ≡ 0) × OnTrain 0 (taskAt ts (j .task)) j)
+  pub named-others : (L b : ℕ) (j : Job) → 0 < Wait L ts → Blocks L ts b → (j .task ≡ b → ⊥)
+      → List·Memᴰ j (named L ts) ↔ ((j .task < length ts) × (j .deadline ≤ L + 1) × OnTrain 1 (taskAt ts (j .task)) j)
 
 -- writing then reading gives the numbers back, whatever follows; reading an in-range set then writing gives the bytes back
 pub record RoundTrips : Type 0 where
@@ -87,14 +128,6 @@ pub record MakesLate (ts : List Task) (js : List Job) : Type 0 where
   pub whole : Whole js
   pub late-row : (w : Row) × List·Memᴰ w (dispatch js) × (late w ≡ true)
 
--- x is the least number from 1 to H that passes a test
-abbrev pub Least : (ℕ → Bool) → ℕ → Type 0
-Least p x = (1 ≤ x) × (x ≤ 100000) × (p x ≡ true) × ((y : ℕ) → 1 ≤ y → y < x → p y ≡ false)
-
--- no number from 1 to H passes
-abbrev pub None : (ℕ → Bool) → Type 0
-None p = (y : ℕ) → 1 ≤ y → y ≤ 100000 → p y ≡ false
-
 -- when each verdict is due, with what it carries
 abbrev pub Condition : List Task → Verdict → Type 0
 Condition ts (Verdict.Misses L b) = Least (λ K. fails K ts) L × (b ≡ blocker L ts)
@@ -120,3 +153,16 @@ pub record TrueOfEveryPattern : Type 0 where
   pub kept : (ts : List Task) → AllSound ts → Kept ts (verdict ts)
   pub kept-table : (table : List ℕ) → tableRefusal table ≡ none → Kept (tasksOf table) (verdict (tasksOf table))
   pub kept-by : (table : List ℕ) → KeptBy table (verdictAnswer table)
+
+-- THE C CALL in one sentence. Of a text whose first set was read and is in range, a statement about its tasks
+abbrev pub Read : List ℕ → (List Task → Type 0) → Type 0
+Read text P = (ws : List ℕ) × (after : List ℕ) × (readSet text ≡ took ws after) × Fine ws × P (tasksOf ws)
+
+-- 100: every legal pattern is in time; 101: the named pattern makes a job late; 102 on its condition; else 4 or 7, and no other number
+pub record CallForC (text : List ℕ) : Type 0 where
+  pub meets : checkNumber text ≡ 100 → Read text (λ ts. (js : List Job) → Legal ts js → InTime js)
+  pub misses : checkNumber text ≡ 101 → Read text (λ ts. (L : ℕ) × Least (λ K. fails K ts) L × MakesLate ts (named L ts))
+  pub too-far : checkNumber text ≡ 102 → Read text (λ ts. None (λ K. fails K ts) × None (λ t. closes t ts))
+  pub bad-word : checkNumber text ≡ 4 → (ws : List ℕ) × (after : List ℕ) × (i : ℕ) × (readSet text ≡ took ws after) × FirstOut ws i
+  pub bad-line : checkNumber text ≡ 7 → (l : ℕ) × (readSet text ≡ stop l)
+  pub no-other : List·Memᴰ (checkNumber text) (100 ∷ 101 ∷ 102 ∷ 4 ∷ 7 ∷ [])

@@ -11,8 +11,8 @@ pub mod Legal
 pub mod Picked
 pub mod Runs
 pub mod Dispatcher
-pub mod Determined
 pub mod LateJob
+pub mod Determined
 -- trains of jobs, and the blocker
 pub mod Counts
 pub mod Rest

@@ -35,7 +35,7 @@ least-of p x f = (f .low, f .high, f .passes, f .none-before)
 first-of : (p : ℕ → Bool) (x : ℕ) → Least p x → First p x
 first-of p x l = record { low = l .0; high = l .1; passes = l .2; none-before = l .3 }
 
-exactly : (ts : List Task) (v : Verdict) → (verdict ts ≡ v) ↔ Condition ts v
+pub exactly : (ts : List Task) (v : Verdict) → (verdict ts ≡ v) ↔ Condition ts v
 exactly ts (Verdict.Misses L b) = (
   λ e. let h = misses-when ts L b .0 e in (least-of _ L (h .0), h .1),
   λ h. misses-when ts L b .1 (first-of _ L (h .0), h .1),

@@ -47,10 +47,10 @@ exactly ts (Verdict.Meets σ) = (
 exactly ts Verdict.TooFar = too-far-when ts
 
 module _ (ts : List Task) (sound : AllSound ts) where
-  in-time : (σ : ℕ) → 1 ≤ σ → closes σ ts ≡ true → ((L : ℕ) → 1 ≤ L → L < σ → fails L ts ≡ false) → (js : List Job) → Legal ts js → InTime js
+  pub in-time : (σ : ℕ) → 1 ≤ σ → closes σ ts ≡ true → ((L : ℕ) → 1 ≤ L → L < σ → fails L ts ≡ false) → (js : List Job) → Legal ts js → InTime js
   in-time σ pos e ok js l = record { whole = legal-whole ts sound js l; on-time = meets ts sound σ pos e ok js l }
 
-  makes-late : (L : ℕ) → fails L ts ≡ true → MakesLate ts (named L ts)
+  pub makes-late : (L : ℕ) → fails L ts ≡ true → MakesLate ts (named L ts)
   makes-late L e =
       let x = misses ts sound L e in
       record { legal = x .0; for-C = x .1; whole = legal-whole ts sound (named L ts) (x .0); late-row = x .2 }

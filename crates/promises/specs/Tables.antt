@@ -94,12 +94,12 @@ pub data FirstTells (text : List ℕ) : Told → Type 0 where
 pub data Prints : Told → List ℕ → Type 0 where
   meets : {σ : ℕ} → Prints (100 with (σ ∷ [])) (line (bytes "verdict=") (bytes "meets") ++ line (bytes "span=") (digits σ))
   misses : {L b : ℕ}
-      → Prints (101 with (L ∷ b ∷ [])) (line (bytes "verdict=") (bytes "misses") ++ line (bytes "length=") (digits L) ++ line (bytes "blocker=") (digits b))
+      → Prints (101 with (L ∷ b ∷ [])) (line (bytes "verdict=") (bytes "misses") ++ (line (bytes "length=") (digits L) ++ line (bytes "blocker=") (digits b)))
   misses-alone : {L : ℕ}
-      → Prints (101 with (L ∷ [])) (line (bytes "verdict=") (bytes "misses") ++ line (bytes "length=") (digits L) ++ line (bytes "blocker=") (bytes "none"))
+      → Prints (101 with (L ∷ [])) (line (bytes "verdict=") (bytes "misses") ++ (line (bytes "length=") (digits L) ++ line (bytes "blocker=") (bytes "none")))
   too-far : Prints (102 with []) (line (bytes "verdict=") (bytes "toofar"))
-  four : {i : ℕ} → Prints (4 with (i ∷ [])) (line (bytes "refused=") (bytes "4") ++ line (bytes "word=") (digits i))
-  seven : {l : ℕ} → Prints (7 with (l ∷ [])) (line (bytes "refused=") (bytes "7") ++ line (bytes "line=") (digits l))
+  four : {i : ℕ} → Prints (4 with (i ∷ [])) (line (bytes "refused=") (digits 4) ++ line (bytes "word=") (digits i))
+  seven : {l : ℕ} → Prints (7 with (l ∷ [])) (line (bytes "refused=") (digits 7) ++ line (bytes "line=") (digits l))
 
 -- THE REPORT OF ONE SET: 6 the buffer is shorter than the lines; else 0 with their length and how much is left to read, and the lines at its start
 pub data ReportTells (n : ℕ) (text out : List ℕ) : Told → List ℕ → Type 0 where

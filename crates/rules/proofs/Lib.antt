@@ -31,5 +31,6 @@ pub mod Digits
 pub mod ReadSteps
 pub mod LineTrips
 pub mod SetTrips
+pub mod Printed
 -- the starred sets
 pub mod Stars

@@ -14,6 +14,7 @@ pub mod Dispatcher
 pub mod Determined
 pub mod LateJob
 -- trains of jobs, and the blocker
+pub mod Counts
 pub mod Rest
 pub mod Trains
 pub mod Members

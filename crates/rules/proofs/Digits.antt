@@ -45,6 +45,15 @@ unfoldable pub lasts : ℕ → ℕ → List ℕ
 lasts zero v = []
 lasts (suc k) v = lasts k (v / 10) ++ ((48 + v % 10) ∷ [])
 
+-- none of them; and one more
+pub lasts-none : (v : ℕ) → lasts 0 v ≡ []
+unfolding lasts
+lasts-none v = refl
+
+pub lasts-more : (k v : ℕ) → lasts (suc k) v ≡ lasts k (v / 10) ++ ((48 + v % 10) ∷ [])
+unfolding lasts
+lasts-more k v = refl
+
 lasts-one : (v : ℕ) → v < 10 → (48 + v) ∷ [] ≡ lasts 1 v
 unfolding lasts
 lasts-one v h = let e : v ≡ v % 10 = omega arith in ap (λ (x : ℕ). (48 + x) ∷ []) e

@@ -14,6 +14,7 @@ pub mod Dispatcher
 pub mod Determined
 pub mod LateJob
 -- trains of jobs, and the blocker
+pub mod Counts
 pub mod Rest
 pub mod Trains
 pub mod Members
@@ -26,9 +27,13 @@ pub mod Late
 pub mod Misses
 pub mod Least
 -- the text, read and written
+pub mod Slices
 pub mod Digits
 pub mod ReadSteps
+pub mod ReadSets
+pub mod WriteSteps
 pub mod LineTrips
 pub mod SetTrips
+pub mod Reading
 -- the starred sets
 pub mod Stars

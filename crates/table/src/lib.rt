@@ -1,24 +1,29 @@
-// Whether a table is one: refusals 1 to 4. And wide numbers, for the crates above.
+// A table and its tasks: whether it is one, refusals 1 to 4; and the one reader of a task.
 ghost use mathlib.Core.Path.{_≡_};
-ghost use Prim.Native.Nat.{_≤_, _<_, _^_, max};
+ghost use Prim.Native.Nat.{_+_, _*_, _≤_, _<_};
 ghost use lib.ListN.{length};
 ghost use Rattle.rules.specs.Refusals.{answering};
-ghost use Rattle.rules.specs.Table.{wordLeast, inRange, outOfRange, tableAnswer};
+ghost use Rattle.rules.specs.Table.{wordLeast, inRange, outOfRange, tableAnswer, taskIn};
 use rules::Refusal;
 use rules::TableAnswer;
+use rules::Task;
 
-// A word as a wide number.
-pub fn wide(x: u32) -> u64
-    ensures { λ r. ⌜ (r ≡ x) × (r < 2 ^ 32) ⌝ }
-{
-    x as u64
-}
+// The most words of a table, and the greatest value of a word.
+pub const TABLE_MOST: usize = 256;
 
-// The greater of two wide numbers.
-pub fn greater(a: u64, b: u64) -> u64
-    ensures { λ r. ⌜ r ≡ max a b ⌝ }
+pub const WORD_MOST: u32 = 65535;
+
+// The task of number i.
+pub fn task_at(table: &[u32], i: usize) -> Task
+    requires { ⌜ 4 * i + 3 < length (now table) ⌝ }
+    ensures { λ r. ⌜ r ≡ taskIn (now (table .entry)) i ⌝ }
 {
-    if a < b { b } else { a }
+    Task {
+        C: table[4 * i],
+        D: table[4 * i + 1],
+        T: table[4 * i + 2],
+        R: table[4 * i + 3],
+    }
 }
 
 // The least value of the word at an index: R may be 0.
@@ -39,7 +44,7 @@ fn in_range(i: usize, x: u32) -> bool
     if x < least {
         return false;
     }
-    if x > 65535 {
+    if x > WORD_MOST {
         return false;
     }
     true
@@ -72,7 +77,7 @@ pub fn check_table(table: &[u32]) -> TableAnswer
     if n % 4 != 0 {
         return TableAnswer::Refused(Refusal::NotFours);
     }
-    if n > 256 {
+    if n > TABLE_MOST {
         return TableAnswer::Refused(Refusal::TooManyWords);
     }
     check_words(table)

@@ -1,14 +1,16 @@
+-- `print::put_number` meets its contract: the buffer with the digits that are left put at the place is, at each turn, the old one with all of
+-- them; at the end none is left.
 use mathlib.Core.Path.{_≡_, refl, sym, ap, _∙_}
 use Prim.Native.Nat.{ℕ, _≤_}
 use native.Mathlib.Omega.{arith}
 use lib.ListN.{length, length-set}
 use Rattle.rules.specs.Text.{digits}
-use Rattle.lines.specs.Line.{put}
+use Rattle.print.specs.Place.{put}
 use Rattle.rules.proofs.Digits.{lasts, digits-lasts}
-use Rattle.lines.proofs.Putting.{put-none, put-digit}
+use Rattle.print.proofs.Putting.{put-none, put-digit}
 use borrow.Author.Needs.{needs}
-use Rattle.lines.proofs.put_number.Statement.{statement}
-use Rattle.lines.proofs.put_number.Tie as tie
+use Rattle.print.proofs.put_number.Statement.{statement}
+use Rattle.print.proofs.put_number.Tie as tie
 
 abbrev Inv-loop : tie.InvT-loop
 Inv-loop out₀ at n w v₀ i₀ out v i = (i ≤ w) × ((length out ≡ length out₀) × ((w ≡ length (digits n)) × (put out at (lasts i v) ≡ put out₀ at (digits n))))
@@ -45,14 +47,14 @@ loop-less c = search needs
 
 loop-again : tie.Need-loop-again Inv-loop μ-loop
 loop-again c =
-    let w = c .before in
-    let a = w .before .before .before .args in (
+    let at-loop = c .before in
+    let a = at-loop .before .before .before .args in (
       omega arith,
       (
-        simp length-set (w .loop .inv .1 .0),
+        simp length-set (at-loop .loop .inv .1 .0),
         (
-          w .loop .inv .1 .1 .0,
-          put-digit (w .loop .out) (a .at) (w .loop .i) (w .loop .v) (c .loop-test .taken) (omega arith) ∙ w .loop .inv .1 .1 .1,
+          at-loop .loop .inv .1 .1 .0,
+          put-digit (at-loop .loop .out) (a .at) (at-loop .loop .i) (at-loop .loop .v) (c .loop-test .taken) (omega arith) ∙ at-loop .loop .inv .1 .1 .1,
         ),
       ),
     )
@@ -65,12 +67,12 @@ same-length c = search needs
 
 returns : tie.Need-returns Inv-loop μ-loop
 returns c =
-    let w = c .before in
-    let a = w .before .before .before .args in
-    let e : w .loop .i ≡ 0 = omega arith in
+    let at-loop = c .before in
+    let a = at-loop .before .before .before .args in
+    let e : at-loop .loop .i ≡ 0 = omega arith in
     record {
       says = omega arith;
-      leaves = sym (put-none _ (a .at) _ (w .loop .v) e) ∙ w .loop .inv .1 .1 .1;
+      leaves = sym (put-none _ (a .at) _ (at-loop .loop .v) e) ∙ at-loop .loop .inv .1 .1 .1;
     }
 
 pub put-number-spec : {M : Type 1} → statement M

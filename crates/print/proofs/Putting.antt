@@ -1,4 +1,4 @@
--- Bytes put at a place of a list.
+-- Bytes put at a place of a list: one by one, one after another, a number's digits from the last, a line; and that a call has one outcome.
 use mathlib.Core.Path.{_≡_, sym, ap, ap₂, _∙_, subst}
 use Prim.Native.Nat.{ℕ, zero, suc, _+_, _-_, _/_, _%_, _≤_, _<_}
 use native.Mathlib.Numerals.{add-one}
@@ -7,16 +7,21 @@ use mathlib.Core.List.{List, [], _∷_, _++_, append-assoc}
 use lib.ListN.{length, take, drop, set, length-append, take-append-drop}
 use lib.Seq.{set-split, take-at, drop-at, drop-append-add, drop-drop, length-take-le, take-set-le, take-length, paste}
 use Rattle.rules.specs.Text.{line}
-use Rattle.lines.specs.Line.{put, Puts}
-use Rattle.rules.proofs.Digits.{lasts, lasts-length}
+use Rattle.rules.proofs.Digits.{lasts, lasts-none, lasts-more, lasts-length}
+use Rattle.rules.proofs.WriteSteps.{line-is, line-length}
+use Rattle.print.specs.Place.{put, Puts, PutsOne}
 
+-- one outcome
+pub puts-one : PutsOne
+puts-one old at vs m n e f p q = (p .says ∙ sym (q .says), p .leaves ∙ sym (q .leaves))
+
+-- no byte
 pub put-nil : (l : List ℕ) (at : ℕ) → put l at [] ≡ l
 put-nil l at = let e : at + 0 ≡ at = omega arith in ap (λ (k : ℕ). take at l ++ drop k l) e ∙ take-append-drop at l
 
 -- no digit
 pub put-none : (l : List ℕ) (at i v : ℕ) → i ≡ 0 → put l at (lasts i v) ≡ l
-unfolding lasts
-put-none l at i v e = rw e (put-nil l at)
+put-none l at i v e = rw (e, lasts-none v) (put-nil l at)
 
 -- one byte
 pub put-one : (l : List ℕ) (at b : ℕ) → at < length l → set l at b ≡ put l at (b ∷ [])
@@ -60,6 +65,7 @@ module _ (l : List ℕ) (at : ℕ) (vs : List ℕ) (h : at + length vs ≤ lengt
       ∙ append-assoc (take at l) vs (ws ++ drop (at + length (vs ++ ws)) l)
       ∙ ap (λ (x : List ℕ). take at l ++ x) (sym (append-assoc vs ws (drop (at + length (vs ++ ws)) l)))
 
+  -- one call after another
   pub then : {m k : List ℕ} {r q : ℕ} (ws : List ℕ) → Puts l at vs r m → Puts m r ws q k → Puts l at (vs ++ ws) q k
   then {m} {k} {r} {q} ws p s =
       let x = p .says in
@@ -71,22 +77,16 @@ module _ (l : List ℕ) (at : ℕ) (vs : List ℕ) (h : at + length vs ≤ lengt
 
 -- one digit of a number, put before those that stand in front of it
 pub put-digit : (l : List ℕ) (at i v : ℕ) → 0 < i → at + i ≤ length l → put (set l (at + (i - 1)) (48 + v % 10)) at (lasts (i - 1) (v / 10)) ≡ put l at (lasts i v)
-unfolding lasts
 put-digit l at zero v p h = absurd (omega arith)
 put-digit l at (suc k) v p h =
     let e : suc k - 1 ≡ k = omega arith in
-    rw e (put-last l at (lasts k (v / 10)) (48 + v % 10) k (lasts-length k (v / 10)) (omega arith))
+    rw (e, lasts-more k v) (put-last l at (lasts k (v / 10)) (48 + v % 10) k (lasts-length k (v / 10)) (omega arith))
 
--- a line
-pub line-length : (key value : List ℕ) → length (line key value) ≡ length key + length value + 1
-unfolding line
-line-length key value = simp length-append (omega arith)
-
+-- a line, by its three parts
 pub line-put : (l : List ℕ) (at : ℕ) (key value : List ℕ) {m k j : List ℕ} {r q z : ℕ} → at + length (line key value) ≤ length l
     → Puts l at key r m → Puts m r value q k → Puts k q (10 ∷ []) z j → Puts l at (line key value) z j
-unfolding line
 line-put l at key value {m} {k} {j} {r} {q} {z} h a b d =
     let e = line-length key value in
     let f = then l at key (omega arith) value a b in
     let g = then l at (key ++ value) (omega (arith, length-append key value)) (10 ∷ []) f d in
-    subst (λ (x : List ℕ). Puts l at x z j) (append-assoc key value (10 ∷ [])) g
+    subst (λ (x : List ℕ). Puts l at x z j) (append-assoc key value (10 ∷ []) ∙ sym (line-is key value)) g

@@ -1,8 +1,9 @@
+-- `print::put_byte` meets its contract: one store is a byte put at its place.
 use mathlib.Core.Path.{refl}
-use Rattle.lines.proofs.Putting.{put-one}
+use Rattle.print.proofs.Putting.{put-one}
 use borrow.Author.Needs.{needs}
-use Rattle.lines.proofs.put_byte.Statement.{statement}
-use Rattle.lines.proofs.put_byte.Tie as tie
+use Rattle.print.proofs.put_byte.Statement.{statement}
+use Rattle.print.proofs.put_byte.Tie as tie
 
 slice-write-out : tie.Need-slice-write-out
 slice-write-out c = search needs

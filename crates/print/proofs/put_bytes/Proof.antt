@@ -1,3 +1,5 @@
+-- `print::put_bytes` meets its contract: after i turns the buffer is the old one with i bytes pasted at the place; all of them pasted are the
+-- bytes put.
 use mathlib.Core.Path.{_≡_, refl, sym, ap, _∙_}
 use Prim.Native.Nat.{ℕ, _+_, _-_, _≤_}
 use native.Mathlib.Numerals.{add-one}
@@ -5,10 +7,10 @@ use native.Mathlib.Omega.{arith}
 use mathlib.Core.List.{List}
 use lib.ListN.{length, getD, set, length-set}
 use lib.Seq.{paste, paste-suc, paste-zero}
-use Rattle.lines.proofs.Putting.{put-paste}
+use Rattle.print.proofs.Putting.{put-paste}
 use borrow.Author.Needs.{needs}
-use Rattle.lines.proofs.put_bytes.Statement.{statement}
-use Rattle.lines.proofs.put_bytes.Tie as tie
+use Rattle.print.proofs.put_bytes.Statement.{statement}
+use Rattle.print.proofs.put_bytes.Tie as tie
 
 abbrev Inv-loop : tie.InvT-loop
 Inv-loop out₀ at bytes i₀ out i = (i ≤ length bytes) × ((out ≡ paste out₀ at bytes i) × (length out ≡ length out₀))
@@ -36,15 +38,15 @@ loop-less c = search needs
 
 loop-again : tie.Need-loop-again Inv-loop μ-loop
 loop-again c =
-    let w = c .before .before in
-    let a = w .before .args in
-    let i = w .loop .i in (
+    let at-loop = c .before .before in
+    let a = at-loop .before .args in
+    let i = at-loop .loop .i in (
       omega arith,
       (
-        ap (λ (l : List ℕ). set l (a .at + i) (getD (a .bytes .now) i 0)) (w .loop .inv .1 .0)
+        ap (λ (l : List ℕ). set l (a .at + i) (getD (a .bytes .now) i 0)) (at-loop .loop .inv .1 .0)
             ∙ paste-suc (a .out .now) (a .at) (a .bytes .now) i 0 (omega arith) (omega arith)
             ∙ ap (paste (a .out .now) (a .at) (a .bytes .now)) (sym (add-one i)),
-        simp length-set (w .loop .inv .1 .1),
+        simp length-set (at-loop .loop .inv .1 .1),
       ),
     )
 
@@ -56,12 +58,12 @@ same-length c = search needs
 
 returns : tie.Need-returns Inv-loop μ-loop
 returns c =
-    let w = c .before in
-    let a = w .before .args in
-    let e : w .loop .i ≡ length (a .bytes .now) = omega arith in
+    let at-loop = c .before in
+    let a = at-loop .before .args in
+    let e : at-loop .loop .i ≡ length (a .bytes .now) = omega arith in
     record {
       says = omega arith;
-      leaves = w .loop .inv .1 .0 ∙ ap (paste (a .out .now) (a .at) (a .bytes .now)) e ∙ put-paste (a .out .now) (a .at) (a .bytes .now);
+      leaves = at-loop .loop .inv .1 .0 ∙ ap (paste (a .out .now) (a .at) (a .bytes .now)) e ∙ put-paste (a .out .now) (a .at) (a .bytes .now);
     }
 
 pub put-bytes-spec : {M : Type 1} → statement M

@@ -1,12 +1,12 @@
 -- How few bytes the text of a set has, and how many the lines for a set can have.
-use mathlib.Core.Path.{_≡_, ap}
-use Prim.Native.Nat.{ℕ, suc, _+_, _*_, _/_, _%_, _≤_}
+use mathlib.Core.Path.{_≡_, refl, ap}
+use Prim.Native.Nat.{ℕ, suc, _+_, _*_, _/_, _%_, _≤_, _<_}
 use native.Mathlib.Omega.{arith}
 use mathlib.Core.List.{List, [], _∷_, _++_}
 use lib.ListN.{length, length-append}
 use Rattle.rules.specs.Refusals.{entry, carriedLine}
-use Rattle.rules.specs.Text.{took, bytes, digits, line, keyOf, readSet, writeLines, writeSet}
-use Rattle.rules.specs.Report.{blockerWord, verdictLines, answerLines, setLines}
+use Rattle.rules.specs.Text.{Lines, took, stop, bytes, digits, line, keyOf, readSet, writeLines, writeSet}
+use Rattle.rules.specs.Report.{blockerWord, verdictLines, answerLines, setLines, setRest}
 use Rattle.rules.specs.Answers.{firstAnswer}
 use Rattle.rules.specs.declared.Carried.{Carried}
 use Rattle.rules.specs.declared.Blocker.{Blocker}
@@ -15,7 +15,7 @@ use Rattle.rules.specs.declared.VerdictAnswer.{VerdictAnswer}
 use Rattle.rules.proofs.Digits.{digits-least, digits-most}
 use Rattle.rules.proofs.WriteSteps.{line-length, key-length, set-length}
 use Rattle.rules.proofs.SetTrips.{set-back}
-use Rattle.rules.proofs.Printed.{lines-are}
+use Rattle.rules.proofs.Printed.{lines-are, rest-read, rest-stops}
 
 -- a line of a task has a key of two bytes, a digit and byte 10 at least
 lines-least : (k : ℕ) (ws : List ℕ) → 4 * length ws ≤ length (writeLines k ws)
@@ -30,6 +30,14 @@ pub set-least : (text ws rest : List ℕ) → readSet text ≡ took ws rest → 
 set-least text ws rest e =
     let s = set-back text ws rest e in
     omega (arith, ap length (s .text), s .words, s .some-task, length-append (writeSet ws) rest, set-length ws, digits-least (length ws / 4), lines-least 0 ws)
+
+-- so something is left to read only where 24 bytes fewer are
+pub rest-fewer : (text : List ℕ) → 0 < length (setRest text) → 24 + length (setRest text) ≤ length text
+rest-fewer text h = by-set (readSet text) refl
+  where
+    by-set : (k : Lines) → readSet text ≡ k → 24 + length (setRest text) ≤ length text
+    by-set (took ws rest) e = omega (arith, set-least text ws rest e, ap length (rest-read text ws rest e))
+    by-set (stop l) e = absurd (omega (arith, ap length (rest-stops text l e)))
 
 -- a line with a number
 number-line : (key : List ℕ) (v : ℕ) → length (line key (digits v)) ≤ length key + 11

@@ -35,5 +35,9 @@ pub mod WriteSteps
 pub mod LineTrips
 pub mod SetTrips
 pub mod Reading
+-- the report and the program's output
+pub mod Printed
+pub mod Lengths
+pub mod First
 -- the starred sets
 pub mod Stars

@@ -1,3 +1,2 @@
--- Laws of one line: its digits, read step by step, put into a buffer, and read back.
-pub mod Putting
+-- Laws for the code that reads one line.
 pub mod Reading

@@ -1,10 +1,9 @@
--- What the calls on one line promise.
+-- What the calls that read one line promise, and that each promise leaves one outcome.
 use mathlib.Core.Path.{_≡_}
-use Prim.Native.Nat.{ℕ, _+_}
-use mathlib.Core.List.{List, _++_}
+use Prim.Native.Nat.{ℕ}
+use mathlib.Core.List.{List}
 use mathlib.Core.Bool.{Bool, true, false}
 use mathlib.Core.Option.{Option, none, some}
-use lib.ListN.{length, take, drop}
 use Rattle.rules.specs.Text.{Read, got, bad, afterKey}
 use Rattle.lines.specs.declared.Number.{Number}
 use Rattle.lines.specs.declared.Number.the-variants.{Value, Wrong}
@@ -29,11 +28,10 @@ pub record Finds (due : Read) (old : List ℕ) (answer : Number) (rest : List �
   pub says : seen answer rest ≡ due
   pub keeps : answer ≡ Wrong → rest ≡ old
 
--- bytes in the place of as many, from a place on
-abbrev pub put : List ℕ → ℕ → List ℕ → List ℕ
-put old at vs = take at old ++ (vs ++ drop (at + length vs) old)
+-- two outcomes of one search for a key are equal
+abbrev pub SkipsOne : Type 0
+SkipsOne = (key s old : List ℕ) (a b : Bool) (r q : List ℕ) → Skips key s old a r → Skips key s old b q → (a ≡ b) × (r ≡ q)
 
--- bytes are put at a place; the answer is the place after them
-pub record Puts (old : List ℕ) (at : ℕ) (vs : List ℕ) (next : ℕ) (exit : List ℕ) : Type 0 where
-  pub says : next ≡ at + length vs
-  pub leaves : exit ≡ put old at vs
+-- two outcomes of one search for a number are equal
+abbrev pub FindsOne : Type 0
+FindsOne = (due : Read) (old : List ℕ) (a b : Number) (r q : List ℕ) → Finds due old a r → Finds due old b q → (a ≡ b) × (r ≡ q)

@@ -27,10 +27,17 @@ pub mod Late
 pub mod Misses
 pub mod Least
 -- the text, read and written
+pub mod Slices
 pub mod Digits
 pub mod ReadSteps
+pub mod ReadSets
+pub mod WriteSteps
 pub mod LineTrips
 pub mod SetTrips
+pub mod Reading
+-- the report and the program's output
 pub mod Printed
+pub mod Lengths
+pub mod First
 -- the starred sets
 pub mod Stars

@@ -11,7 +11,7 @@ use lib.Dec.{leb}
 use lib.ListN.{length, drop, getD, drop-of-length-le}
 use lib.Seq.{drop-cons}
 use borrow.Author.Tests.{eq-eqb, ne-eqb, le-leb, lt-leb, leb-true}
-use Rattle.rules.specs.Text.{got, bad, afterKey, digit, moreDigits, readNumber, lineEnd}
+use Rattle.rules.specs.Text.{got, bad, afterKey, digit, moreDigits, readNumber, lineEnd, numberLine, readLine}
 use Rattle.rules.proofs.Booleans.{both-true}
 
 -- bytes of length 0
@@ -124,3 +124,13 @@ module _ (v : ℕ) (t : List ℕ) where
   pub end-right : 0 < length t → getD t 0 0 ≡ 10 → lineEnd (got v t) ≡ got v (drop 1 t)
   unfolding lineEnd
   end-right p e = rw (first-of t p, eq-eqb (getD t 0 0) 10 e)
+
+-- a line, by what stands after its key
+module _ (key s : List ℕ) where
+  pub line-no-key : afterKey key s ≡ none → readLine key s ≡ bad
+  unfolding readLine numberLine
+  line-no-key e = rw e
+
+  pub line-after-key : (a : List ℕ) → afterKey key s ≡ some a → readLine key s ≡ lineEnd (readNumber a)
+  unfolding readLine numberLine
+  line-after-key a e = rw e

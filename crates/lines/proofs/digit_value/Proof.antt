@@ -1,3 +1,4 @@
+-- `lines::digit_value` meets its contract: a digit is a byte from 48 to 57, so the difference neither wraps nor reaches 10.
 use native.Mathlib.Omega.{arith}
 use Rattle.rules.proofs.ReadSteps.{digit-range}
 use borrow.Author.Needs.{needs}

@@ -1,3 +1,4 @@
+-- `lines::is_digit` meets its contract: below 48, above 57 or between, and `digit` says the same of each.
 use mathlib.Core.Path.{sym}
 use Rattle.rules.proofs.ReadSteps.{below-digits, above-digits, a-digit}
 use Rattle.lines.proofs.is_digit.Statement.{statement}

@@ -1,0 +1,2 @@
+-- Laws of bytes put at a place.
+pub mod Putting

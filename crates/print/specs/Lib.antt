@@ -1,0 +1,2 @@
+-- What the calls that put bytes promise.
+pub mod Place

@@ -8,18 +8,17 @@ use mathlib.Core.Bool.{Bool, true, false}
 use mathlib.Core.Option.{Option, none, some}
 use Rattle.rules.specs.Task.{tasksOf, AllSound}
 use Rattle.rules.specs.declared.Task.{Task}
-use Rattle.rules.specs.Refusals.{answering}
 use Rattle.rules.specs.Table.{tableRefusal}
 use Rattle.rules.specs.Dispatch.{Job}
 use Rattle.rules.specs.Jobs.{named}
 use Rattle.rules.specs.Legal.{Legal}
-use Rattle.rules.specs.Demand.{fails, closes, firstFail, blocker, verdict}
+use Rattle.rules.specs.Demand.{fails, closes, verdict}
 use Rattle.rules.specs.Answers.{verdictAnswer}
 use Rattle.rules.specs.declared.Refusal.{Refusal}
 use Rattle.rules.specs.declared.Verdict.{Verdict}
-use Rattle.rules.specs.declared.VerdictAnswer.{VerdictAnswer}
 use Rattle.rules.proofs.Tables.{table-sound}
-use Rattle.rules.proofs.Verdicts.{First, misses-when, meets-when, too-far-when, first-when, steady-not-first}
+use Rattle.rules.proofs.Calls.{verdict-refused, verdict-judged}
+use Rattle.rules.proofs.Verdicts.{First, misses-when, meets-when, too-far-when, steady-not-first}
 use Rattle.rules.proofs.Meets.{meets}
 use Rattle.rules.proofs.Misses.{misses}
 use Rattle.rules.proofs.Least.{least-below}
@@ -66,12 +65,11 @@ module _ (ts : List Task) (sound : AllSound ts) where
   kept = kept-if (verdict ts) (exactly ts (verdict ts) .0 refl)
 
   pub sharper : Sharper ts
-  unfolding firstFail
   sharper = record {
     below-the-span = in-time;
     any-length = makes-late;
     least-below = least-below ts sound;
-    no-growth = λ L e l. steady-not-first ts sound L e (first-when _ L .1 (first-of _ L l));
+    no-growth = λ L e l. steady-not-first ts sound L e (first-of _ L l);
   }
 
 -- so for every table
@@ -80,12 +78,11 @@ kept-table table e = kept (tasksOf table) (table-sound table e)
 
 -- and the verdict call's answer
 pub kept-by : (table : List ℕ) → KeptBy table (verdictAnswer table)
-unfolding verdictAnswer
 kept-by table = go (tableRefusal table) refl
   where
-    go : (o : Option Refusal) → tableRefusal table ≡ o → KeptBy table (answering o VerdictAnswer.Refused (VerdictAnswer.Judged (verdict (tasksOf table))))
-    go none e = kept-table table e
-    go (some r) e = tt
+    go : (o : Option Refusal) → tableRefusal table ≡ o → KeptBy table (verdictAnswer table)
+    go none e = rw (verdict-judged table e) (kept-table table e)
+    go (some r) e = rw (verdict-refused table r e) tt
 
 pub true-of-every-pattern : TrueOfEveryPattern
 true-of-every-pattern = record {

@@ -4,9 +4,10 @@ pub mod Trips
 pub mod Whole
 pub mod Kept
 mod Exact
-pub mod Texts
-pub mod Judged
-pub mod Shown
+mod Texts
+mod Judged
+mod Shown
 pub mod Dispatched
 pub mod CallForC
-pub mod Printing
+mod Printing
+pub mod Numbers

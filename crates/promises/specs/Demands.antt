@@ -1,11 +1,11 @@
 -- The three demands on one page, over the definitions and the calls' contracts of rules/specs.
 use mathlib.Core.Path.{_≡_}
 use mathlib.Core.Logic.{_↔_}
-use Prim.Native.Nat.{ℕ, _+_, _≤_, _<_}
+use Prim.Native.Nat.{ℕ, _+_, _*_, _/_, _≤_, _<_}
 use mathlib.Core.List.{List, [], _∷_, _++_, List·Memᴰ}
 use mathlib.Core.Bool.{true, false}
 use mathlib.Core.Option.{none, some}
-use lib.ListN.{length}
+use lib.ListN.{length, take, drop}
 use Rattle.rules.specs.Choice.{if_then_else_}
 use Rattle.rules.specs.declared.Task.{Task}
 use Rattle.rules.specs.Task.{tasksOf, taskAt, AllSound}
@@ -98,10 +98,16 @@ pub record JobLists (ts : List Task) : Type 0 where
   pub named-others : (L b : ℕ) (j : Job) → 0 < Wait L ts → Blocks L ts b → (j .task ≡ b → ⊥)
       → List·Memᴰ j (named L ts) ↔ ((j .task < length ts) × (j .deadline ≤ L + 1) × OnTrain 1 (taskAt ts (j .task)) j)
 
--- writing then reading gives the numbers back, whatever follows; reading an in-range set then writing gives the bytes back
+-- writing then reading gives the numbers back, whatever follows; reading an in-range set then writing gives the bytes back: by the definitions,
+-- and of whatever meets the calls' contracts
 pub record RoundTrips : Type 0 where
   pub write-then-read : (table after : List ℕ) → tableRefusal table ≡ none → readSet (writeSet table ++ after) ≡ took table after
   pub read-then-write : (text words after : List ℕ) → readSet text ≡ took words after → tableRefusal words ≡ none → writeSet words ++ after ≡ text
+  pub written-is-read : (table out text : List ℕ) (n : ℕ) → Writes table out (WriteAnswer.Written n) text
+      → (after room : List ℕ) → length table ≤ length room → (answer : ReadAnswer) (rest exit : List ℕ) → Reads (take n text ++ after) room answer rest exit
+      → (answer ≡ ReadAnswer.Set (length table / 4)) × (rest ≡ after) × (exit ≡ table ++ drop (length table) room)
+  pub read-is-written : (text table rest words : List ℕ) (n : ℕ) → Reads text table (ReadAnswer.Set n) rest words
+      → (out exit : List ℕ) (k : ℕ) → Writes (take (4 * n) words) out (WriteAnswer.Written k) exit → take k exit ++ rest ≡ text
 
 -- 3. THE VERDICT IS TRUE OF EVERY ARRIVAL PATTERN. "Meets": no legal pattern, with run times from 1 to C, makes any job late.
 -- "Misses": the named pattern makes one late. "Too far" is given only on its condition.

@@ -5,6 +5,7 @@ pub mod Search
 pub mod Tables
 pub mod Refused
 pub mod Calls
+pub mod Untouched
 -- the dispatcher: what it picks, its runs, its rules, and that they leave one list of rows
 pub mod Taken
 pub mod Legal

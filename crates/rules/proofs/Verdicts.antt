@@ -178,10 +178,8 @@ fails-before ts K L h e f =
     fails-when ts K .1 (omega arith, omega arith)
 
 -- where Due does not grow from L − 1 to L, L is not the least that fails
-pub steady-not-first : (ts : List Task) → AllSound ts → (L : ℕ) → Due L ts ≡ Due (L - 1) ts → firstFail ts ≡ some L → ⊥
-unfolding firstFail
-steady-not-first ts sound L e f =
-    let m = first-when (λ K. fails K ts) L .0 f in
+pub steady-not-first : (ts : List Task) → AllSound ts → (L : ℕ) → Due L ts ≡ Due (L - 1) ts → First (λ K. fails K ts) L → ⊥
+steady-not-first ts sound L e m =
     ⊎-elim
     (λ a.
     let h = ltb-true 1 L a in

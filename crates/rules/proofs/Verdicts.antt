@@ -109,6 +109,10 @@ div-grows : (a b k : ℕ) → a ≤ b → a / k ≤ b / k
 div-grows a b zero h = rw (div-zero a, div-zero b) (omega arith)
 div-grows a b (suc k) h = le-div-iff-mul-le {k = suc k} (omega arith) .1 (le-trans (div-mul-le-self a (suc k)) h)
 
+pub ceiling-is : (t T : ℕ) → ceiling t T ≡ (t + T - 1) / T
+unfolding ceiling
+ceiling-is t T = refl
+
 pub ceiling-grows : (s t T : ℕ) → s ≤ t → ceiling s T ≤ ceiling t T
 unfolding ceiling
 ceiling-grows s t T h = div-grows (s + T - 1) (t + T - 1) T (omega arith)

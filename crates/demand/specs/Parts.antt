@@ -14,7 +14,7 @@ pub record Bounded (τ : Task) : Type 0 where
   pub C-most : τ .C ≤ wordMost
 
 -- the two parts for a length, with room to add them up
-pub record Demands (L : ℕ) (ts : List Task) (x : Demand) : Type 0 where
+pub record WorkedOut (L : ℕ) (ts : List Task) (x : Demand) : Type 0 where
   pub due-is : x .due ≡ Due L ts
   pub wait-is : x .wait ≡ Wait L ts
   pub due-fits : x .due ≤ 2 ^ 55

@@ -4,7 +4,7 @@ ghost use Prim.Native.Nat.{_*_, _≤_, _<_, _^_};
 ghost use Rattle.rules.specs.Task.{tasksOf};
 ghost use Rattle.rules.specs.Table.{ValidTable};
 ghost use Rattle.rules.specs.Demand.{due, wait, fails, blocker, ceiling, work};
-ghost use Rattle.demand.specs.Parts.{Bounded, Demands};
+ghost use Rattle.demand.specs.Parts.{Bounded, WorkedOut};
 use arith::greater;
 use arith::wide;
 use rules::Blocker;
@@ -37,7 +37,7 @@ fn wait_of(task: Task, length: u32) -> u64
 // What is due and what is waited for at a length.
 fn demand_at(table: &[u32], length: u32) -> Demand
     requires { ⌜ ValidTable (now table) ⌝ }
-    ensures { λ r. ⌜ Demands length (tasksOf (now (table .entry))) r ⌝ }
+    ensures { λ r. ⌜ WorkedOut length (tasksOf (now (table .entry))) r ⌝ }
 {
     let mut due: u64 = 0;
     let mut wait: u64 = 0;

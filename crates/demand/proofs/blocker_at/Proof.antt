@@ -44,7 +44,7 @@ loop-again c =
     let after-read = c .before .before in
     let at-loop = after-read .before .before .loop .inv in
     let waits = c .before .wait-of .ensures .0 ∙ ap (wait _) (after-read .task-at .ensures) in
-    (omega arith, longest-new _ _ _ (after-read .before .loop-test .taken) (at-loop .0) _ _ (at-loop .1) _ waits (c .if1 .taken))
+    (omega arith, longest-new _ _ _ (after-read .before .loop-test .taken) (at-loop .0) _ _ (at-loop .1) _ waits (omega arith))
 
 loop-less-2 : tie.Need-loop-less-2 Inv-loop μ-loop
 loop-less-2 c = search needs
@@ -55,7 +55,7 @@ loop-again-2 c =
     let after-read = c .before .before in
     let at-loop = after-read .before .before .loop .inv in
     let waits = c .before .wait-of .ensures .0 ∙ ap (wait _) (after-read .task-at .ensures) in
-    (omega arith, longest-on _ _ _ (after-read .before .loop-test .taken) (at-loop .0) _ _ (at-loop .1) _ waits (c .if1 .left))
+    (omega arith, longest-on _ _ _ (after-read .before .loop-test .taken) (at-loop .0) _ _ (at-loop .1) _ waits (omega arith))
 
 -- of all tasks
 all : (c : tie.After-loop Inv-loop μ-loop)

@@ -3,7 +3,7 @@ use mathlib.Core.Path.{sym}
 use Prim.Native.Nat.{_≤_, _<_}
 use native.Mathlib.Omega.{arith}
 use borrow.Author.Needs.{needs}
-use Rattle.rules.proofs.Looks.{fails-not, fails-by}
+use Rattle.rules.proofs.Verdicts.{fails-not, fails-by}
 use Rattle.demand.proofs.fails_at.Statement.{statement}
 use Rattle.demand.proofs.fails_at.Tie as tie
 

@@ -1,5 +1,6 @@
 -- `table::check_table` refuses by 1, 2, 3 and 4 in this order: it tests the length as the definition does, then its words.
 use mathlib.Core.Path.{sym, _∙_}
+use native.Mathlib.Omega.{arith}
 use borrow.Author.Needs.{needs}
 use Rattle.rules.proofs.TableSteps.{no-word, not-fours, too-many, by-words}
 use Rattle.table.proofs.check_table.Statement.{statement}
@@ -12,7 +13,7 @@ returns-2 : tie.Need-returns-2
 returns-2 c = sym (not-fours _ (c .before .if1 .left) (c .if2 .taken))
 
 returns-3 : tie.Need-returns-3
-returns-3 c = sym (too-many _ (c .before .before .if1 .left) (c .before .if2 .left) (c .if3 .taken))
+returns-3 c = sym (too-many _ (c .before .before .if1 .left) (c .before .if2 .left) (omega arith))
 
 check-words-requires : tie.Need-check-words-requires
 check-words-requires c κs = search needs

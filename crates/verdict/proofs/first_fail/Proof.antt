@@ -42,7 +42,7 @@ loop-again c =
 
 -- none fails
 returns-2 : tie.Need-returns-2 Inv-loop μ-loop
-returns-2 c = sym (first-fail-none _ _ (c .before .loop .inv .2) (c .loop-test .left))
+returns-2 c = sym (first-fail-none _ _ (c .before .loop .inv .2) (omega arith))
 
 pub first-fail-spec : {M : Type 1} → statement M
 first-fail-spec =

@@ -1,102 +1,56 @@
-use mathlib.Core.Path.{_≡_}
-use native.Mathlib.Omega.{arith}
 use borrow.Author.Needs.{needs}
-use Rattle.text.proofs.put_task_line.Statement.{statement}
-use Rattle.text.proofs.put_task_line.Tie as tie
+use Rattle.writer.proofs.put_task_line.Statement.{statement}
+use Rattle.writer.proofs.put_task_line.Tie as tie
+use Rattle.writer.proofs.put_task_line.Reads as reads
+use Rattle.writer.proofs.put_task_line.Lts as lts
+use Rattle.print.proofs.put_line.Reads as put-line-reads
 
-slice-aggregate-put-line : tie.Need-slice-aggregate-put-line
-slice-aggregate-put-line c = search needs
+-- src/lib.rt:20:41
+mul-put-line : tie.Need-mul-put-line
+mul-put-line c = search needs
 
+-- src/lib.rt:20:52
+mul-put-line-2 : tie.Need-mul-put-line-2
+mul-put-line-2 c = search needs
+
+-- src/lib.rt:20:52
+add-put-line : tie.Need-add-put-line
+add-put-line c = search needs
+
+-- src/lib.rt:20:30
+sub-put-line : tie.Need-sub-put-line
+sub-put-line c = search needs
+
+-- src/lib.rt:20:30
+part-put-line-start : tie.Need-part-put-line-start
+part-put-line-start c = search needs
+
+-- src/lib.rt:20:30
+part-put-line-end : tie.Need-part-put-line-end
+part-put-line-end c = search needs
+
+-- src/lib.rt:20:5
 put-line-requires : tie.Need-put-line-requires
-put-line-requires c κs =
-    let s = c .before .before .before .before in
-    let e : s .args .which ≡ 0 = omega arith in
-    rw e at (s .pre .1)
+put-line-requires c κs = ?
 
+-- src/lib.rt:16:1
 same-length : tie.Need-same-length
 same-length c = search needs
 
+-- src/lib.rt:16:1
 returns : tie.Need-returns
-returns c =
-    let x = c .before .before in
-    let s = x .before .before .before .before .before in
-    let e : s .args .which ≡ 0 = omega arith in
-    rw e (x .put-line .ensures)
-
-slice-aggregate-put-line-2 : tie.Need-slice-aggregate-put-line-2
-slice-aggregate-put-line-2 c = search needs
-
-put-line-requires-2 : tie.Need-put-line-requires-2
-put-line-requires-2 c κs =
-    let s = c .before .before .before .before .before in
-    let e : s .args .which ≡ 1 = omega arith in
-    rw e at (s .pre .1)
-
-same-length-2 : tie.Need-same-length-2
-same-length-2 c = search needs
-
-returns-2 : tie.Need-returns-2
-returns-2 c =
-    let x = c .before .before in
-    let s = x .before .before .before .before .before .before in
-    let e : s .args .which ≡ 1 = omega arith in
-    rw e (x .put-line2 .ensures)
-
-slice-aggregate-put-line-3 : tie.Need-slice-aggregate-put-line-3
-slice-aggregate-put-line-3 c = search needs
-
-put-line-requires-3 : tie.Need-put-line-requires-3
-put-line-requires-3 c κs =
-    let s = c .before .before .before .before .before .before in
-    let e : s .args .which ≡ 2 = omega arith in
-    rw e at (s .pre .1)
-
-same-length-3 : tie.Need-same-length-3
-same-length-3 c = search needs
-
-returns-3 : tie.Need-returns-3
-returns-3 c =
-    let x = c .before .before in
-    let s = x .before .before .before .before .before .before .before in
-    let e : s .args .which ≡ 2 = omega arith in
-    rw e (x .put-line3 .ensures)
-
-slice-aggregate-put-line-4 : tie.Need-slice-aggregate-put-line-4
-slice-aggregate-put-line-4 c = search needs
-
-put-line-requires-4 : tie.Need-put-line-requires-4
-put-line-requires-4 c κs =
-    let s = c .before .before .before .before .before .before in
-    let e : s .args .which ≡ 3 = omega arith in
-    rw e at (s .pre .1)
-
-same-length-4 : tie.Need-same-length-4
-same-length-4 c = search needs
-
-returns-4 : tie.Need-returns-4
-returns-4 c =
-    let x = c .before .before in
-    let s = x .before .before .before .before .before .before .before in
-    let e : s .args .which ≡ 3 = omega arith in
-    rw e (x .put-line4 .ensures)
+returns c = ?
 
 pub put-task-line-spec : {M : Type 1} → statement M
 put-task-line-spec =
     tie.close
     (tie.spec
-    slice-aggregate-put-line
+    mul-put-line
+    mul-put-line-2
+    add-put-line
+    sub-put-line
+    part-put-line-start
+    part-put-line-end
     put-line-requires
     same-length
-    returns
-    slice-aggregate-put-line-2
-    put-line-requires-2
-    same-length-2
-    returns-2
-    slice-aggregate-put-line-3
-    put-line-requires-3
-    same-length-3
-    returns-3
-    slice-aggregate-put-line-4
-    put-line-requires-4
-    same-length-4
-    returns-4)
+    returns)

@@ -7,7 +7,7 @@ use lib.ListN.{length, drop, getD, length-append}
 use Rattle.rules.specs.Text.{keyOf, tasksKey, digits, line, writeLines, writeSet}
 use Rattle.rules.proofs.WriteSteps.{set-is, one-more}
 use Rattle.print.specs.Place.{put, Puts}
-use Rattle.print.proofs.Putting.{put-put}
+use Rattle.print.proofs.Putting.{put-start, put-put}
 
 -- the same before and after a line
 pub turn : (ws : List ℕ) (k : ℕ) → k < length ws → (l : List ℕ) (at : ℕ) {m : List ℕ} {r : ℕ} → at + length (writeLines k (drop k ws)) ≤ length l
@@ -25,4 +25,4 @@ all-put ws l {m} {r} h p =
     let x = line tasksKey (digits (length ws / 4)) in
     let y = writeLines 0 ws in
     let b : 0 + length x ≤ length l = omega (arith, ap length (set-is ws), length-append x y) in
-    ap₂ (λ (i : List ℕ) (j : ℕ). put i j y) (p .leaves) (p .says) ∙ put-put l 0 x b y ∙ ap (put l 0) (sym (set-is ws))
+    ap₂ (λ (i : List ℕ) (j : ℕ). put i j y) (p .leaves) (p .says) ∙ put-put l 0 x b y ∙ ap (put l 0) (sym (set-is ws)) ∙ put-start l (writeSet ws)

@@ -1,45 +1,40 @@
+-- `writer::put_task_line` meets its contract: the line is put with the part of the table of keys at twice the place, and that part is the key.
+use Rattle.rules.proofs.WriteSteps.{key-part}
 use borrow.Author.Needs.{needs}
 use Rattle.writer.proofs.put_task_line.Statement.{statement}
 use Rattle.writer.proofs.put_task_line.Tie as tie
-use Rattle.writer.proofs.put_task_line.Reads as reads
-use Rattle.writer.proofs.put_task_line.Lts as lts
-use Rattle.print.proofs.put_line.Reads as put-line-reads
 
--- src/lib.rt:20:41
 mul-put-line : tie.Need-mul-put-line
 mul-put-line c = search needs
 
--- src/lib.rt:20:52
 mul-put-line-2 : tie.Need-mul-put-line-2
 mul-put-line-2 c = search needs
 
--- src/lib.rt:20:52
 add-put-line : tie.Need-add-put-line
 add-put-line c = search needs
 
--- src/lib.rt:20:30
 sub-put-line : tie.Need-sub-put-line
 sub-put-line c = search needs
 
--- src/lib.rt:20:30
 part-put-line-start : tie.Need-part-put-line-start
 part-put-line-start c = search needs
 
--- src/lib.rt:20:30
 part-put-line-end : tie.Need-part-put-line-end
 part-put-line-end c = search needs
 
--- src/lib.rt:20:5
 put-line-requires : tie.Need-put-line-requires
-put-line-requires c κs = ?
+put-line-requires c κs =
+    let at-entry = c .before .before .before .before in
+    rw (key-part (at-entry .args .which) (at-entry .pre .0)) (at-entry .pre .1)
 
--- src/lib.rt:16:1
 same-length : tie.Need-same-length
 same-length c = search needs
 
--- src/lib.rt:16:1
 returns : tie.Need-returns
-returns c = ?
+returns c =
+    let after-line = c .before .before in
+    let at-entry = after-line .before .before .before .before .before in
+    rw (← key-part (at-entry .args .which) (at-entry .pre .0)) (after-line .put-line .ensures)
 
 pub put-task-line-spec : {M : Type 1} → statement M
 put-task-line-spec =

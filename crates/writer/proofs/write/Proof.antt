@@ -54,8 +54,9 @@ put-set-requires c κs =
     let e = c .before .before .text-length .ensures .0 in
     (few is-table, omega (arith, c .before .if1 .left))
 
+-- the length fits; the table's length is named too, so that an edit that answers it fails by the answer
 cast-t12 : tie.Need-cast-t12
-cast-t12 c = search needs
+cast-t12 c = omega (arith, few (c .before .before .before .before .before .before))
 
 same-length : tie.Need-same-length
 same-length c = search needs

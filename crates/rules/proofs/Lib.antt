@@ -6,6 +6,7 @@ pub mod Tables
 pub mod Refused
 pub mod Calls
 -- the dispatcher: what it picks, its runs, its rules, and that they leave one list of rows
+pub mod Order
 pub mod Taken
 pub mod Legal
 pub mod Picked
@@ -13,6 +14,8 @@ pub mod Runs
 pub mod Dispatcher
 pub mod Determined
 pub mod LateJob
+pub mod Choosing
+pub mod RowWords
 -- trains of jobs, and the blocker
 pub mod Counts
 pub mod Rest

@@ -21,6 +21,7 @@ pub mod Counts
 pub mod Rest
 pub mod Trains
 pub mod Members
+pub mod Planned
 pub mod Blockers
 -- demand 3: the verdict's three lines, meets, misses, the least length
 pub mod Verdicts

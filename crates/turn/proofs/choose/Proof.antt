@@ -1,10 +1,10 @@
 use mathlib.Core.Path.{_≡_, refl}
 use Prim.Native.Nat.{_+_, _-_, _≤_}
 use native.Mathlib.Omega.{arith}
-use Rattle.dispatch.specs.Counters.{Best}
-use Rattle.dispatch.proofs.Walk.{best-none, chosen}
-use Rattle.dispatch.proofs.choose.Statement.{statement}
-use Rattle.dispatch.proofs.choose.Tie as tie
+use Rattle.turn.specs.Counters.{Best}
+use Rattle.turn.proofs.Walk.{best-none, chosen}
+use Rattle.turn.proofs.choose.Statement.{statement}
+use Rattle.turn.proofs.choose.Tie as tie
 
 abbrev Inv-loop : tie.InvT-loop
 Inv-loop table first count next m t best₀ i₀ best i = (i ≤ m) × Best table first count next t m i best

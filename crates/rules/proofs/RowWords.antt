@@ -1,10 +1,15 @@
--- Rows as words, four a row.
+-- A row's finish, and rows as words, four a row.
 use mathlib.Core.Path.{_≡_, refl, ap}
 use Prim.Native.Nat.{ℕ, _*_, _+_}
 use native.Mathlib.Omega.{arith}
 use mathlib.Core.List.{List, [], _∷_, _++_}
 use lib.ListN.{length}
 use Rattle.rules.specs.Dispatch.{Row, finish, rowWords}
+
+-- a row finishes its run time after its start
+pub finish-is : (w : Row) → finish w ≡ w .start + w .job .run
+unfolding finish
+finish-is w = refl
 
 pub rowWords-append : (ws vs : List Row) → rowWords (ws ++ vs) ≡ rowWords ws ++ rowWords vs
 unfolding rowWords

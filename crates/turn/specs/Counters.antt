@@ -3,10 +3,13 @@ use mathlib.Core.Path.{_≡_}
 use Prim.Native.Nat.{ℕ, zero, suc, _+_, _-_, _*_, _^_, max, _≤_, _<_}
 use mathlib.Core.List.{List, [], _++_}
 use mathlib.Core.Option.{some}
-use lib.ListN.{getD}
+use lib.ListN.{getD, replicate}
+use Rattle.rules.specs.Numbers.{taskMost}
 use Rattle.rules.specs.Dispatch.{Job, pick, ready}
-use Rattle.rules.specs.Jobs.{train}
+use Rattle.rules.specs.Jobs.{train, planTrain}
 use Rattle.rules.specs.Table.{taskIn}
+use Rattle.rules.specs.declared.Plan.{Plan}
+use Rattle.rules.specs.declared.Train.{Train}
 use Rattle.turn.specs.declared.Turn.{Turn}
 
 -- when job q of task i is released
@@ -32,6 +35,18 @@ jobsAt w f c i q = train (getD c i 0 - q) q (releaseAt w f i q) i (taskIn w i)
 unfoldable pub restFrom : List ℕ → List ℕ → List ℕ → List ℕ → ℕ → ℕ → List Job
 restFrom w f c nx zero k = []
 restFrom w f c nx (suc n) k = jobsAt w f c k (getD nx k 0) ++ restFrom w f c nx n (suc k)
+
+-- no job is started
+abbrev pub noneStarted : List ℕ
+noneStarted = replicate taskMost 0
+
+-- all jobs of the m tasks of a table
+abbrev pub jobsIn : List ℕ → List ℕ → List ℕ → ℕ → List Job
+jobsIn w f c m = restFrom w f c noneStarted m 0
+
+-- the two arrays hold the trains of a table's first m tasks under a plan
+abbrev pub Holds : Plan → List ℕ → ℕ → List ℕ → List ℕ → Type 0
+Holds p w m f c = (k : ℕ) → k < m → record { first = getD f k 0; count = getD c k 0 } ≡ planTrain p k (taskIn w k)
 
 -- of the tasks from i on the next job to start, with the tile free from tick t on
 pub record Chosen (w f c nx : List ℕ) (t m i : ℕ) (x : Turn) : Type 0 where

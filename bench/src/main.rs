@@ -32,11 +32,9 @@ fn main() {
 fn verdict(set: &Set) -> Line {
     let table = &set.table;
     let ours = |_: &mut ()| u64::from(boundary::verdict(black_box(table), &mut [0; LEAST_OUT]));
-    let theirs = |_: &mut ()| match oracle::verdict(black_box(table)) {
-        Ok(oracle::Verdict::Meets { .. }) => 100,
-        Ok(oracle::Verdict::Misses { .. }) => 101,
-        Ok(oracle::Verdict::TooFar) => 102,
-        Err(refusal) => u64::from(refusal.number()),
+    let theirs = |_: &mut ()| {
+        let answer = oracle::verdict(black_box(table));
+        u64::from(answer.map_or_else(oracle::Refusal::number, oracle::Verdict::number))
     };
     let times = measure(Pace::Many, &mut (), |_| (), ours, theirs);
     Line { call: "verdict", set: set.name, bytes: None, times }

@@ -1,0 +1,68 @@
+"""The maker of variants, tried on a few lines: what it must make of them, and what it must leave alone."""
+from kinds import Names, variants
+
+LINES = '''-- a comment with leb 1 and "text"
+use lib.Dec.{leb, ltb}
+
+pub record Pair : Type 0 where
+  pub left : ℕ
+  pub right : ℕ
+
+-- 3 of them
+unfoldable pub small : ℕ → ℕ → Bool
+small a b = leb a 7 && ltb b (suc a)
+
+abbrev pub either : Bool → List ℕ
+either true = bytes "yes"
+either false = 1 ∷ 2 ∷ []
+
+abbrev pub turned : Pair → Pair
+turned p = if small (p .left) 0 then record { left = p .right; right = p .left } else p
+
+pub record Says (a b : ℕ) : Type 0 where
+  pub low : (x : ℕ) → 1 ≤ x → small a x ≡ true
+  pub both : (a ≡ b) × (max a b - 1 < b)
+'''
+# a line of the source, and what it must become in some variant
+MADE = [
+    ('small a b = leb a 7 && ltb b (suc a)', 'small a b = ltb a 7 && ltb b (suc a)'),
+    ('small a b = leb a 7 && ltb b (suc a)', 'small a b = leb a 8 && ltb b (suc a)'),
+    ('small a b = leb a 7 && ltb b (suc a)', 'small a b = leb a 6 && ltb b (suc a)'),
+    ('small a b = leb a 7 && ltb b (suc a)', 'small a b = leb a 7 || ltb b (suc a)'),
+    ('small a b = leb a 7 && ltb b (suc a)', 'small a b = leb a 7'),
+    ('small a b = leb a 7 && ltb b (suc a)', 'small a b = ltb b (suc a)'),
+    ('small a b = leb a 7 && ltb b (suc a)', 'small a b = leb a 7 && ltb b (a)'),
+    ('small a b = leb a 7 && ltb b (suc a)', 'small a b = leb b 7 && ltb a (suc b)'),
+    ('small a b = leb a 7 && ltb b (suc a)', 'small a b = leb 7 a && ltb b (suc a)'),
+    ('either true = bytes "yes"', 'either true = 1 ∷ 2 ∷ []'),
+    ('either true = bytes "yes"', 'either true = bytes "zes"'),
+    ('either true = bytes "yes"', 'either true = bytes "ye"'),
+    ('either false = 1 ∷ 2 ∷ []', 'either false = 2 ∷ []'),
+    ('either false = 1 ∷ 2 ∷ []', 'either false = 1 ∷ []'),
+    ('either false = 1 ∷ 2 ∷ []', 'either false = 2 ∷ 1 ∷ []'),
+    ('if small (p .left) 0 then', 'if small (p .right) 0 then'),
+    ('if small (p .left) 0 then', 'if small 0 (p .left) then'),
+    ('{ left = p .right; right = p .left }', '{ left = p .left; right = p .right }'),
+    ('then record { left = p .right; right = p .left } else p', 'then p else record { left = p .right; right = p .left }'),
+    ('(x : ℕ) → 1 ≤ x → small a x ≡ true', '(x : ℕ) → small a x ≡ true'),
+    ('(x : ℕ) → 1 ≤ x → small a x ≡ true', '(x : ℕ) → 1 < x → small a x ≡ true'),
+    ('(x : ℕ) → 1 ≤ x → small a x ≡ true', '(x : ℕ) → 1 ≤ x → small a x ≡ false'),
+    ('(a ≡ b) × (max a b - 1 < b)', '(a ≡ b)'),
+    ('(a ≡ b) × (max a b - 1 < b)', '(max a b - 1 < b)'),
+    ('max a b - 1 < b', 'min a b - 1 < b'),
+    ('max a b - 1 < b', 'max a b - 0 < b'),
+    ('  pub both : (a ≡ b) × (max a b - 1 < b)\n', ''),
+]
+# what every variant still has: comments, imports, signatures
+KEPT = ['-- a comment with leb 1 and "text"', 'use lib.Dec.{leb, ltb}', '-- 3 of them', 'unfoldable pub small : ℕ → ℕ → Bool', ': Type 0 where']
+
+
+def selftest():
+    made = [v.applied(LINES) for v in variants(LINES, Names().take(LINES))]
+    lost = [f'not made: {new}' for old, new in MADE if LINES.replace(old, new, 1) not in made]
+    lost += [f'not kept: {k}' for k in KEPT for text in made if text.count(k) != LINES.count(k)]
+    lost += ['made twice'] if len(set(made)) != len(made) or LINES in made else []
+    for line in lost:
+        print(line)
+    print(f'{len(made)} variants of the sample, {len(MADE)} looked for: ' + ('FAILED' if lost else 'ok'))
+    return 1 if lost else 0

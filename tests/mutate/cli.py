@@ -29,7 +29,7 @@ def words(argv):
     p.add_argument('--up-to', metavar='CRATES', default='', help='try only these crates and those below them (names joined by commas)')
     p.add_argument('--sample', type=int, metavar='N', help='only N of the variants, drawn at random')
     p.add_argument('--seed', type=int, default=1, help='the seed of the draw (default: 1)')
-    p.add_argument('--again', metavar='WORD', help='only variants whose known result, of whatever tree, is WORD (passed, refused, ill-formed)')
+    p.add_argument('--again', choices=['passed', 'refused', 'ill-formed', 'unclear'], help='only variants that were passed, refused or ill-formed when last tried, whatever the crates were then; a refusal is tried anew')
     p.add_argument('--keep', action='store_true', help='count the results of an earlier state of the crates')
     p.add_argument('--strict', action='store_true', help='use rt check alone, with no quick look by rt dev before it')
     p.add_argument('--selftest', action='store_true', help='try the maker of variants on a few lines of its own')
@@ -76,7 +76,7 @@ def all_trials(root, crates, files):
 
 def chosen(trials, args, ledger):
     if args.again:
-        trials = [t for t in trials if t.key in ledger.known and ledger.known[t.key].word == args.again]
+        trials = [t for t in trials if t.key in ledger.past and ledger.past[t.key].word == args.again]
     if args.sample is not None and args.sample < len(trials):
         picked = set(random.Random(args.seed).sample(range(len(trials)), args.sample))
         trials = [t for i, t in enumerate(trials) if i in picked]
@@ -155,7 +155,7 @@ def main(root, argv):
     if args.jobs < 1 or any(n not in crates.deps for n in args.up_to.split(',') if args.up_to):
         return wrong('--jobs is 1 or more, and --up-to names crates')
     os.makedirs(os.path.join(root, 'target', 'mutants'), exist_ok=True)
-    ledger = Ledger(os.path.join(root, 'target', 'mutants', 'results.tsv'), tree_hash(root), args.keep or bool(args.again))
+    ledger = Ledger(os.path.join(root, 'target', 'mutants', 'results.tsv'), tree_hash(root), args.keep)
     trials = chosen(list(all_trials(root, crates, files)), args, ledger)
     if args.list:
         for t in trials:
@@ -172,7 +172,7 @@ def try_and_report(root, crates, trials, args, ledger):
     for t in trials:
         reached = [t.crate] + [c for c in crates.above(t.crate) if c in wanted]
         known = ledger.find(t.key, reached)
-        if known:
+        if known and args.again in (None, 'passed'):
             report.add(t, known, quiet=True)
         else:
             left.append(t)

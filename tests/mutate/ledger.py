@@ -15,13 +15,19 @@ class Ledger:
     """target/mutants/results.tsv: tree, key, outcome, crates, where, file and label, a line a variant."""
 
     def __init__(self, path, tree, keep):
-        self.path, self.tree, self.known, self.lock = path, tree, {}, threading.Lock()
+        self.path, self.tree, self.lock = path, tree, threading.Lock()
+        self.past, self.known = {}, {}  # of whatever state of the crates; and of the state that counts
         if os.path.exists(path):
             with open(path, encoding='utf-8') as f:
                 for line in f:
-                    cells = line.rstrip('\n').split('\t')
-                    if len(cells) == 7 and (keep or cells[0] == tree):
-                        self.known[cells[1]] = Outcome(cells[2], cells[3].split(), cells[4])
+                    self.load(line.rstrip('\n').split('\t'), keep)
+
+    def load(self, cells, keep):
+        if len(cells) != 7:
+            return  # a line that a stop cut short
+        self.past[cells[1]] = Outcome(cells[2], cells[3].split(), cells[4])
+        if keep or cells[0] == self.tree:
+            self.known[cells[1]] = self.past[cells[1]]
 
     def find(self, key, wanted):
         """A refusal counts for good; a pass counts if all the crates now wanted were tried."""

@@ -114,7 +114,8 @@ class Report:
         print(f'\n{len(self.results)} tried of {self.total}: {len(self.of("ill-formed"))} ill-formed, '
               f'{len(self.of("refused"))} refused, {len(passed)} survived{upto}, {len(self.of("unclear"))} unclear')
         print('refused by: ' + (', '.join(f'{c} {n}' for c, n in by_crate.most_common()) or 'none'))
-        self.kinds()
+        self.table('by file', lambda t: t.file)
+        self.table('by kind', lambda t: t.variant.kind)
         for t, o in self.of('unclear'):
             print(f'unclear: {t.title()}: {o.crates[-1]}, {o.where}')
         for t, _ in passed:
@@ -124,13 +125,14 @@ class Report:
             print(f'SURVIVED: {t.title()}\n    {t.changed_line()}')
         return 1 if floating or self.of('unclear') else 0
 
-    def kinds(self):
-        """How the kinds of slip fared: tried, ill-formed, refused, survived."""
-        table = collections.defaultdict(collections.Counter)
+    def table(self, title, of):
+        """How the variants fared, by their file or by their kind."""
+        rows = collections.defaultdict(collections.Counter)
         for t, o in self.results:
-            table[t.variant.kind][o.word] += 1
-        for kind, n in sorted(table.items()):
-            print(f'  {kind}: {sum(n.values())} tried, {n["ill-formed"]} ill-formed, {n["refused"]} refused, {n["passed"]} survived')
+            rows[of(t)][o.word] += 1
+        print(f'{title}: tried, ill-formed, refused, survived')
+        for name, n in sorted(rows.items()):
+            print(f'  {name}: {sum(n.values())}, {n["ill-formed"]}, {n["refused"]}, {n["passed"]}')
 
 
 def wanted_crates(crates, upto):

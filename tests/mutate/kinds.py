@@ -45,7 +45,7 @@ class Variant:
     def __init__(self, source, name, kind, start, end, new):
         self.name, self.kind, self.start, self.end, self.new = name, kind, start, end, new
         self.old = source[start:end]
-        self.line = source.count('\n', 0, start) + 1
+        self.line = source.count('\n', 0, start + 1) + 1  # a dropped field starts at the end of the line before
         self.nth = 1
 
     def applied(self, source):
@@ -239,13 +239,13 @@ class Maker:
             self.swap('elements swapped', a, b)
 
     def structure(self, node):
-        """The arms of a case analysis have results, as clauses have."""
+        """The arms of a case analysis have results, as clauses have; a pair's parts may stand in the wrong order."""
         if node.ops[0].text == '|':
             arms = [k for k in node.kids if k.kind == 'structure' and k.ops[0].text == '↦']
             self.other_results([a.kids[1] for a in arms])
             node.kids = [a.kids[1] for a in arms]
-        if node.ops[0].text == '=':
-            node.kids = node.kids[1:]
+        if node.ops[0].text in ('=', ':'):
+            node.kids = node.kids[1:]  # names that are bound here
         if node.ops[0].text == ',':
             for a, b in zip(node.kids, node.kids[1:]):
                 self.swap('elements swapped', a, b)

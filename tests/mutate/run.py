@@ -1,6 +1,7 @@
 """Tries variants in copies of the tree, several at a time, and says what became of each."""
 import os
 import queue
+import signal
 import threading
 
 from ledger import Outcome, key_of
@@ -92,6 +93,8 @@ def try_all(bench, trials, jobs, done):
     todo = queue.SimpleQueue()
     for t in trials:
         todo.put(t)
+    signal.signal(signal.SIGTERM, signal.default_int_handler)
+    signal.signal(signal.SIGINT, signal.default_int_handler)  # a shell starts what runs behind with it ignored
     threads = [threading.Thread(target=work, args=(bench, i, todo, done)) for i in range(min(jobs, len(trials)))]
     for t in threads:
         t.start()

@@ -28,6 +28,7 @@ def words(argv):
     p.add_argument('--jobs', type=int, default=os.cpu_count() or 1, help='how many at a time (default: the processors)')
     p.add_argument('--up-to', metavar='CRATES', default='', help='try only these crates and those below them (names joined by commas)')
     p.add_argument('--only', metavar='NAMES', default='', help='only the definitions of these names (joined by commas)')
+    p.add_argument('--kinds', default='', help='only slips of these kinds (joined by commas), as --list names them')
     p.add_argument('--sample', type=int, metavar='N', help='only N of the variants, drawn at random')
     p.add_argument('--seed', type=int, default=1, help='the seed of the draw (default: 1)')
     p.add_argument('--again', choices=['passed', 'refused', 'ill-formed', 'unclear'], help='only variants that were passed, refused or ill-formed when last tried, whatever the crates were then; a refusal is tried anew')
@@ -78,6 +79,8 @@ def all_trials(root, crates, files):
 def chosen(trials, args, ledger):
     if args.only:
         trials = [t for t in trials if t.variant.name in args.only.split(',')]
+    if args.kinds:
+        trials = [t for t in trials if t.variant.kind in args.kinds.split(',')]
     if args.again:
         trials = [t for t in trials if t.key in ledger.past and ledger.past[t.key].word == args.again]
     if args.sample is not None and args.sample < len(trials):

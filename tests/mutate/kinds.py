@@ -1,4 +1,6 @@
 """The small wrong variants of a definition: each is one replacement in the source, with the kind of slip that it is."""
+import re
+
 from syntax import definitions, argument_types, parts, shape, signature_types, type_text
 
 OTHER_WORD = {
@@ -13,6 +15,14 @@ OTHER_WORD = {
     'max': [('min-max', 'min')],
     'true': [('truth', 'false')],
     'false': [('truth', 'true')],
+}
+# where such a word comes from, and its name there: a file may not import it yet
+HOME = {
+    'leb': ('lib.Dec', 'leb'), 'ltb': ('lib.Dec', 'ltb'),
+    '≤': ('Prim.Native.Nat', '_≤_'), '<': ('Prim.Native.Nat', '_<_'),
+    'min': ('Prim.Native.Nat', 'min'), 'max': ('Prim.Native.Nat', 'max'),
+    '&&': ('mathlib.Core.Bool', '_&&_'), '||': ('mathlib.Core.Bool', '_||_'),
+    'true': ('mathlib.Core.Bool', 'true'), 'false': ('mathlib.Core.Bool', 'false'),
 }
 # the argument types of what the libraries give; where both orders mean the same, the types are told apart
 LIBRARY = {
@@ -48,13 +58,30 @@ class Variant:
         self.line = source.count('\n', 0, start + 1) + 1  # a dropped field starts at the end of the line before
         self.nth = 1
 
-    def applied(self, source):
+    def replaced(self, source):
         return source[:self.start] + self.new + source[self.end:]
+
+    def applied(self, source):
+        """The whole file as it is tried: with the replacement, and with the new word in scope."""
+        text = self.replaced(source)
+        return importing(text, *HOME[self.new]) if self.new in HOME else text
 
     def label(self):
         """The same as long as the definition stands as it is, whatever its place in the file."""
         old, new = (' '.join(t.split()) or 'nothing' for t in (self.old, self.new))
         return f'{self.name}, {self.kind}: {old} → {new}' + (f' ({self.nth})' if self.nth > 1 else '')
+
+
+def importing(text, module, name):
+    """A source that imports a name of a module."""
+    line = re.search(r'^use ' + re.escape(module) + r'\.\{(.*)\}$', text, re.M)
+    if not line:
+        first = re.search(r'^use ', text, re.M)
+        at = first.start() if first else 0
+        return text[:at] + f'use {module}.{{{name}}}\n' + text[at:]
+    if name in line.group(1).split(', '):
+        return text
+    return text[:line.end(1)] + ', ' + name + text[line.end(1):]
 
 
 class Maker:

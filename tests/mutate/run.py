@@ -23,7 +23,8 @@ class Trial:
 
     def changed_line(self):
         """The line in which the variant stands, as it reads with it."""
-        return self.changed.splitlines()[min(self.variant.line, self.changed.count('\n')) - 1].strip()
+        lines = self.variant.replaced(self.source).splitlines()
+        return lines[min(self.variant.line, len(lines)) - 1].strip()
 
 
 class Bench:

@@ -53,13 +53,21 @@ MADE = [
     ('max a b - 1 < b', 'max a b - 0 < b'),
     ('  pub both : (a ≡ b) × (max a b - 1 < b)\n', ''),
 ]
+# a word that the file lacks comes with its import: what a variant then has, in two places
+IMPORTED = [
+    ('use Prim.Native.Nat.{min}\n', 'min a b - 1'),
+    ('use Prim.Native.Nat.{_≤_}\n', 'max a b - 1 ≤ b'),
+    ('use lib.Dec.{leb, ltb}\n', 'ltb a 7'),
+]
 # what every variant still has, unless it drops it with a field: comments, imports, signatures, binders
 KEPT = ['(x y : ℕ)', '-- a comment with leb 1 and "text"', 'use lib.Dec.{leb, ltb}', '-- 3 of them', 'unfoldable pub small : ℕ → ℕ → Bool', ': Type 0 where']
 
 
 def selftest():
     made = [v.applied(LINES) for v in variants(LINES, Names().take(LINES))]
-    lost = [f'not made: {new}' for old, new in MADE if LINES.replace(old, new, 1) not in made]
+    plain = [v.replaced(LINES) for v in variants(LINES, Names().take(LINES))]
+    lost = [f'not made: {new}' for old, new in MADE if LINES.replace(old, new, 1) not in plain]
+    lost += [f'not imported: {new}' for old, new in IMPORTED if not any(old in text and new in text for text in made)]
     lost += [f'not kept: {k}' for k in KEPT for text in made if k not in text and 'pub low' in text]
     lost += ['made twice'] if len(set(made)) != len(made) or LINES in made else []
     for line in lost:

@@ -185,6 +185,8 @@ def try_and_report(root, crates, trials, args, ledger):
         else:
             left.append(t)
     bench = Bench(root, crates, set(wanted) | {c for t in left for c in crates.below(t.crate)}, args.strict)
+    if left and not bench.lock():
+        return wrong('another run is under way here')
     if left:
         print(f'{len(report.results)} known, {len(left)} to try; the tree itself first', flush=True)
         fault = bench.prepare(sorted({t.crate for t in left}))

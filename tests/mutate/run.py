@@ -1,4 +1,5 @@
 """Tries variants in copies of the tree, several at a time, and says what became of each."""
+import fcntl
 import os
 import queue
 import signal
@@ -35,6 +36,15 @@ class Bench:
         self.runs = Runs()
         self.folder = os.path.join(root, 'target', 'mutants')
         self.base = Copy(root, os.path.join(self.folder, 'base'), self.runs)
+
+    def lock(self):
+        """False if another run has the copies; held until the process ends."""
+        self.held = open(os.path.join(self.folder, 'lock'), 'w', encoding='utf-8')
+        try:
+            fcntl.flock(self.held, fcntl.LOCK_EX | fcntl.LOCK_NB)
+        except OSError:
+            return False
+        return True
 
     def prepare(self, mutated):
         """Proves the tree as it stands; what goes wrong in it is returned as text."""

@@ -25,6 +25,7 @@ def words(argv):
     p = argparse.ArgumentParser(prog='tests/mutants', description=HELP, epilog=STATUS, formatter_class=argparse.RawDescriptionHelpFormatter)
     p.add_argument('what', nargs='*', metavar='WHAT', help='a spec file or a crate')
     p.add_argument('--list', action='store_true', help='print the variants and check nothing')
+    p.add_argument('--known', action='store_true', help='print the figures of what is known and check nothing')
     p.add_argument('--jobs', type=int, default=os.cpu_count() or 1, help='how many at a time (default: the processors)')
     p.add_argument('--up-to', metavar='CRATES', default='', help='try only these crates and those below them (names joined by commas)')
     p.add_argument('--only', metavar='NAMES', default='', help='only the definitions of these names (joined by commas)')
@@ -185,6 +186,8 @@ def try_and_report(root, crates, trials, args, ledger):
         else:
             left.append(t)
     bench = Bench(root, crates, set(wanted) | {c for t in left for c in crates.below(t.crate)}, args.strict)
+    if args.known:
+        left = []
     if left and not bench.lock():
         return wrong('another run is under way here')
     if left:

@@ -84,10 +84,10 @@ class Bench:
         for c in self.crates.order(trial.crate, trial.variant.name, self.wanted):
             touched.append(c)
             status, said = copy.check(c, SECONDS)
+            if status not in (0, 1) or 'NOT PROVED (exit 3' in said:
+                return Outcome('unclear', [c], 'out of time' if status is None else 'the checker could not tell')
             if status == 1:
                 return self.refusal(copy, c, said)
-            if status != 0:
-                return Outcome('unclear', [c], 'status ' + str(status))
         return Outcome('passed', list(touched))
 
     def refusal(self, copy, crate, said):
@@ -96,7 +96,8 @@ class Bench:
         in_specs = [e for e in errors if '/specs/' in e]
         if in_specs:
             return Outcome('ill-formed', [crate], in_specs[0])
-        return Outcome('refused', [crate], errors[0] if errors else 'no place named')
+        place = 'what its program wrote' if 'its run FAILED' in said else 'no place named'
+        return Outcome('refused', [crate], errors[0] if errors else place)
 
 
 def try_all(bench, trials, jobs, done):

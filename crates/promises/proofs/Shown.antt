@@ -28,7 +28,8 @@ use Rattle.rules.proofs.Booleans.{true-is-not-false}
 use Rattle.rules.proofs.Tables.{table-sound}
 use Rattle.rules.proofs.LateJob.{late-none, late-row}
 use Rattle.rules.proofs.Determined.{planned-legal, planned-only, legal-late}
-use Rattle.rules.proofs.Calls.{length-rowWords, counted, dispatch-short, dispatch-rows, schedule-refused, schedule-end, schedule-rows, pattern-refused, pattern-none, pattern-rows}
+use Rattle.rules.proofs.RowWords.{length-rowWords}
+use Rattle.rules.proofs.Calls.{counted, dispatch-short, dispatch-rows, schedule-refused, schedule-end, schedule-rows, pattern-refused, pattern-none, pattern-rows}
 use Rattle.promises.specs.Tables.{Least, None, ScheduleTells, PatternTells}
 use Rattle.promises.proofs.Exact.{exact, table-tells, told-table, fine-not, not-fine}
 use Rattle.promises.proofs.Kept.{exactly}

@@ -13,7 +13,7 @@ use Rattle.rules.specs.Numbers.{endMost}
 use Rattle.rules.specs.Task.{tasksOf}
 use Rattle.rules.specs.Refusals.{_when_, firstOf, answering, lent}
 use Rattle.rules.specs.Table.{tableRefusal, tableAnswer, ValidTable}
-use Rattle.rules.specs.Dispatch.{Job, Row, dispatch, lateJob, rowWords}
+use Rattle.rules.specs.Dispatch.{Job, dispatch, lateJob, rowWords}
 use Rattle.rules.specs.Jobs.{concrete, named}
 use Rattle.rules.specs.Demand.{verdict}
 use Rattle.rules.specs.Text.{took, stop, readSet, writeSet}
@@ -38,12 +38,6 @@ use Rattle.rules.proofs.Tables.{valid-of}
 pub alone : (o : Option Refusal) → firstOf (o ∷ []) ≡ o
 alone none = refl
 alone (some r) = refl
-
--- four words a row
-pub length-rowWords : (ws : List Row) → length (rowWords ws) ≡ 4 * length ws
-unfolding rowWords
-length-rowWords [] = refl
-length-rowWords (w ∷ ws) = let ih = length-rowWords ws in omega arith
 
 -- the row count in what the dispatcher answers
 pub counted : (n : ℕ) (o : Option Job) → rowsOf (timing n o) ≡ PatternAnswer.Rows n

@@ -25,7 +25,8 @@ use Rattle.rules.specs.declared.ScheduleAnswer.{ScheduleAnswer}
 use Rattle.rules.specs.declared.PatternAnswer.{PatternAnswer}
 use Rattle.rules.proofs.Booleans.{both-true, true-is-not-false}
 use Rattle.rules.proofs.Tables.{table-sound}
-use Rattle.rules.proofs.Calls.{length-rowWords, counted, dispatch-rows, schedule-rows, pattern-rows}
+use Rattle.rules.proofs.RowWords.{length-rowWords}
+use Rattle.rules.proofs.Calls.{counted, dispatch-rows, schedule-rows, pattern-rows}
 use Rattle.rules.proofs.Search.{found, none-found}
 use Rattle.rules.proofs.Least.{least-below}
 use Rattle.rules.proofs.Verdicts.{First, NoneIn, none-when, misses-when, meets-when}

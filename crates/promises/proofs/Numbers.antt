@@ -1,6 +1,7 @@
 -- Demand 2: each call tells and leaves what the paper's tables say.
 use Rattle.rules.proofs.Printed.{output-long}
-use Rattle.promises.specs.Demands.{PaperNumbers}
+use Rattle.rules.proofs.WriteSteps.{sample-text}
+use Rattle.promises.specs.Demands.{PaperNumbers, Bytes}
 use Rattle.promises.proofs.Texts.{reader-tells, writer-tells, report-tells}
 use Rattle.promises.proofs.Judged.{judge-tells, first-tells}
 use Rattle.promises.proofs.Shown.{schedule-tells, pattern-tells}
@@ -18,3 +19,6 @@ paper-numbers = record {
   too-long = output-long;
   printing = prints;
 }
+
+pub sample : Bytes
+sample = sample-text

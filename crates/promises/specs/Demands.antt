@@ -98,6 +98,12 @@ pub record JobLists (ts : List Task) : Type 0 where
   pub named-others : (L b : ℕ) (j : Job) → 0 < Wait L ts → Blocks L ts b → (j .task ≡ b → ⊥)
       → List·Memᴰ j (named L ts) ↔ ((j .task < length ts) × (j .deadline ≤ L + 1) × OnTrain 1 (taskAt ts (j .task)) j)
 
+-- the text of the set (1,1,1) with R 0, byte for byte: tasks=1, c=1, d=1, t=1 and r=0, each with a byte 10
+abbrev pub Bytes : Type 0
+Bytes =
+    writeSet (1 ∷ 1 ∷ 1 ∷ 0 ∷ [])
+    ≡ 116 ∷ 97 ∷ 115 ∷ 107 ∷ 115 ∷ 61 ∷ 49 ∷ 10 ∷ 99 ∷ 61 ∷ 49 ∷ 10 ∷ 100 ∷ 61 ∷ 49 ∷ 10 ∷ 116 ∷ 61 ∷ 49 ∷ 10 ∷ 114 ∷ 61 ∷ 48 ∷ 10 ∷ []
+
 -- writing then reading gives the numbers back, whatever follows; reading an in-range set then writing gives the bytes back: by the definitions,
 -- and of whatever meets the calls' contracts
 pub record RoundTrips : Type 0 where

@@ -6,7 +6,7 @@ use native.Mathlib.Omega.{arith}
 use mathlib.Core.List.{List, [], _∷_, _++_}
 use lib.ListN.{length, take, drop, getD, length-append, drop-of-length-le}
 use lib.Seq.{drop-cons}
-use Rattle.rules.specs.Text.{bytes, keyOf, tasksKey, digits, line, writeLines, writeSet}
+use Rattle.rules.specs.Text.{bytes, keyOf, tasksKey, digitsWithin, digits, line, writeLines, writeSet}
 
 -- a line
 module _ (key value : List ℕ) where
@@ -62,3 +62,9 @@ module _ (ws : List ℕ) (k : ℕ) where
     step-length =
         ap length one-more
         ∙ omega (arith, length-append (line (keyOf (k % 4)) (digits (getD ws k 0))) (writeLines (k + 1) (drop (k + 1) ws)), line-room)
+
+-- the text of the set (1,1,1), R 0, byte for byte
+pub sample-text : writeSet (1 ∷ 1 ∷ 1 ∷ 0 ∷ [])
+    ≡ 116 ∷ 97 ∷ 115 ∷ 107 ∷ 115 ∷ 61 ∷ 49 ∷ 10 ∷ 99 ∷ 61 ∷ 49 ∷ 10 ∷ 100 ∷ 61 ∷ 49 ∷ 10 ∷ 116 ∷ 61 ∷ 49 ∷ 10 ∷ 114 ∷ 61 ∷ 48 ∷ 10 ∷ []
+unfolding writeSet writeLines line digits digitsWithin
+sample-text = refl

@@ -82,6 +82,16 @@ static void check(const char *name, const char *text, uint32_t wanted)
 #define WITH_NUL "tasks=1\nc=1\0\nd=1\nt=1\nr=0\n"
 #define WHOLE_RUN MEETS_SET MISSES_SET
 
+/* The paper's own numbers, whatever the header calls them. */
+static void check_numbers(void)
+{
+    check("100", MEETS_SET, 100);
+    check("101", MISSES_SET, 101);
+    check("102", TOO_FAR_SET, 102);
+    check("4", "tasks=1\nc=0\nd=1\nt=1\nr=0\n", 4);
+    check("7", "tasks=1\n", 7);
+}
+
 static void check_verdicts(void)
 {
     check("whole run", WHOLE_RUN, TILECHECK_MEETS);
@@ -152,6 +162,7 @@ static void check_long(void)
 int main(void)
 {
     map_pages();
+    check_numbers();
     check_verdicts();
     check_refusals();
     check_null();

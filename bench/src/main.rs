@@ -1,5 +1,6 @@
 //! Times the proved calls beside the oracle's on the same inputs, in the same run.
 //! A ratio says more than a time: it hardly depends on the machine.
+//! `--once` makes each call once, to see that all of it still runs.
 
 mod measure;
 mod report;
@@ -10,35 +11,52 @@ use measure::{measure, Pace};
 use report::Line;
 use sets::Set;
 use std::hint::black_box;
+use std::process::ExitCode;
 
 const WORST_WORDS: usize = 4 * 64 * 100_000;
 
-fn main() {
+fn main() -> ExitCode {
+    let words: Vec<String> = std::env::args().skip(1).collect();
+    let words: Vec<&str> = words.iter().map(String::as_str).collect();
+    match words.as_slice() {
+        [] => {
+            all(|pace| pace);
+            report::foot();
+        }
+        ["--once"] => all(|_| Pace::Once),
+        _ => {
+            eprintln!("usage: bench/run [--once]");
+            return ExitCode::from(2);
+        }
+    }
+    ExitCode::SUCCESS
+}
+
+/// Every line of the table, each at the pace that is made of its own.
+fn all(pace_for: fn(Pace) -> Pace) {
+    let many = pace_for(Pace::Many);
     report::head();
     for set in sets::for_verdict() {
-        report::line(&verdict(&set));
+        report::line(&verdict(&set, many));
     }
     let mut rows = vec![0; WORST_WORDS];
     for (set, pace) in sets::for_schedule() {
-        report::line(&schedule(&set, pace, &mut rows));
+        report::line(&schedule(&set, pace_for(pace), &mut rows));
     }
     for set in sets::for_text() {
-        report::line(&reader(&set));
-        report::line(&writer(&set));
+        report::line(&reader(&set, many));
+        report::line(&writer(&set, many));
     }
-    report::foot();
 }
 
-fn verdict(set: &Set) -> Line {
+fn verdict(set: &Set, pace: Pace) -> Line {
     let table = &set.table;
     let ours = |_: &mut ()| u64::from(boundary::verdict(black_box(table), &mut [0; LEAST_OUT]));
-    let theirs = |_: &mut ()| match oracle::verdict(black_box(table)) {
-        Ok(oracle::Verdict::Meets { .. }) => 100,
-        Ok(oracle::Verdict::Misses { .. }) => 101,
-        Ok(oracle::Verdict::TooFar) => 102,
-        Err(refusal) => u64::from(refusal.number()),
+    let theirs = |_: &mut ()| {
+        let answer = oracle::verdict(black_box(table));
+        u64::from(answer.map_or_else(oracle::Refusal::number, oracle::Verdict::number))
     };
-    let times = measure(Pace::Many, &mut (), |_| (), ours, theirs);
+    let times = measure(pace, &mut (), |_| (), ours, theirs);
     Line { call: "verdict", set: set.name, bytes: None, times }
 }
 
@@ -59,7 +77,7 @@ fn schedule(set: &Set, pace: Pace, rows: &mut Vec<u64>) -> Line {
     Line { call: "schedule", set: set.name, bytes: None, times }
 }
 
-fn reader(set: &Set) -> Line {
+fn reader(set: &Set, pace: Pace) -> Line {
     let text = oracle::writer::set_text(&set.table);
     let ours = |table: &mut [u32; 256]| {
         let mut out = [0; LEAST_OUT];
@@ -69,11 +87,11 @@ fn reader(set: &Set) -> Line {
     let theirs = |table: &mut [u32; 256]| {
         oracle::read(black_box(&text), table).0.map_or(0, |tasks| tasks as u64)
     };
-    let times = measure(Pace::Many, &mut [0; 256], |table| table.fill(0), ours, theirs);
+    let times = measure(pace, &mut [0; 256], |table| table.fill(0), ours, theirs);
     Line { call: "reader", set: set.name, bytes: Some(text.len()), times }
 }
 
-fn writer(set: &Set) -> Line {
+fn writer(set: &Set, pace: Pace) -> Line {
     let table = &set.table;
     let ours = |text: &mut [u8; 4096]| {
         let mut out = [0; LEAST_OUT];
@@ -83,7 +101,7 @@ fn writer(set: &Set) -> Line {
     let theirs = |text: &mut [u8; 4096]| {
         oracle::write(black_box(table), text).map_or(0, |length| length as u64)
     };
-    let times = measure(Pace::Many, &mut [0; 4096], |text| text.fill(0), ours, theirs);
+    let times = measure(pace, &mut [0; 4096], |text| text.fill(0), ours, theirs);
     let length = oracle::writer::set_text(table).len();
     Line { call: "writer", set: set.name, bytes: Some(length), times }
 }

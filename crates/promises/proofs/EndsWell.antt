@@ -1,21 +1,13 @@
 -- Demand 1: every call has exactly one outcome for every input, and a refusal changes no lent buffer.
-use mathlib.Core.Path.{_≡_, refl}
-use Prim.Native.Nat.{ℕ, _≤_}
+use mathlib.Core.Path.{refl}
+use Prim.Native.Nat.{_≤_}
 use native.Mathlib.Omega.{arith}
-use mathlib.Core.List.{List}
-use mathlib.Core.Option.{Option, none, some}
-use lib.ListN.{length}
-use Rattle.rules.specs.Refusals.{numberOf, answering, lent}
-use Rattle.rules.specs.Dispatch.{Job, lateJob}
-use Rattle.rules.specs.Answers.{readRefusal, readAnswer, readTable, readRest, writeRefusal, writeAnswer, writeBuffer, scheduleRows, scheduleRefusal, scheduleAnswer, scheduleBuffer, verdictAnswer, patternRefusal, patternAnswer, patternBuffer, timing, checkNumber}
-use Rattle.rules.specs.Report.{reportRefusal, reportAnswer, reportBuffer}
+use Rattle.rules.specs.Refusals.{numberOf}
+use Rattle.rules.specs.Answers.{readAnswer, readTable, readRest, writeAnswer, writeBuffer, scheduleAnswer, scheduleBuffer, verdictAnswer, patternAnswer, patternBuffer, checkNumber}
+use Rattle.rules.specs.Report.{reportAnswer, reportBuffer}
 use Rattle.rules.specs.declared.Refusal.{Refusal}
 use Rattle.rules.specs.declared.Refusal.the-variants.{NoWord, NotFours, TooManyWords, OutOfRange, BadEnd, TooShort, BadLine, NotMisses}
-use Rattle.rules.specs.declared.ReadAnswer.{ReadAnswer}
-use Rattle.rules.specs.declared.WriteAnswer.{WriteAnswer}
-use Rattle.rules.specs.declared.ScheduleAnswer.{ScheduleAnswer}
-use Rattle.rules.specs.declared.PatternAnswer.{PatternAnswer}
-use Rattle.rules.specs.declared.ReportAnswer.{ReportAnswer}
+use Rattle.rules.proofs.Untouched.{read-untouched, write-untouched, schedule-untouched, pattern-untouched, report-untouched}
 use Rattle.promises.specs.Demands.{EndsWell, Untouched}
 
 pub ends-well : EndsWell
@@ -60,37 +52,12 @@ numbered TooShort = (omega arith, omega arith)
 numbered (BadLine l) = (omega arith, omega arith)
 numbered NotMisses = (omega arith, omega arith)
 
--- an answer that is a refusal, and no result, comes of one, so a buffer is lent back as it was
-as-it-was : {X : Type 0} (refused : Refusal → X) (result : X) (o : Option Refusal) (r : Refusal) (written old exit : List ℕ)
-    → (refused r ≡ result → ⊥) → refused r ≡ answering o refused result → exit ≡ lent o written old → exit ≡ old
-as-it-was refused result none r written old exit apart e leaves = absurd (apart e)
-as-it-was refused result (some s) r written old exit apart e leaves = leaves
-
--- and so is the text
-whole-text : (o : Option Refusal) (r : Refusal) (n : ℕ) (text after rest : List ℕ)
-    → ReadAnswer.Refused r ≡ answering o ReadAnswer.Refused (ReadAnswer.Set n) → rest ≡ answering o (λ s. text) after → rest ≡ text
-whole-text none r n text after rest e back = let z : _≡_ {A = ℕ} 0 1 = cc in absurd (omega arith)
-whole-text (some s) r n text after rest e back = back
-
--- a timing is no refusal
-no-timing : (n : ℕ) (o : Option Job) (r : Refusal) → ScheduleAnswer.Refused r ≡ timing n o → ⊥
-no-timing n none r e = let z : _≡_ {A = ℕ} 0 1 = cc in omega arith
-no-timing n (some j) r e = let z : _≡_ {A = ℕ} 0 1 = cc in omega arith
-
 pub untouched : Untouched
-unfolding readAnswer readTable readRest writeAnswer writeBuffer scheduleAnswer scheduleBuffer patternAnswer patternBuffer reportAnswer reportBuffer
 untouched = record {
   numbered = numbered;
-  reading = λ text table rest exit r c. (
-    whole-text (readRefusal text table) r _ text _ rest (c .says) (c .hands-back),
-    as-it-was ReadAnswer.Refused _ (readRefusal text table) r _ table exit (λ e. let z : _≡_ {A = ℕ} 0 1 = cc in omega arith) (c .says) (c .leaves),
-  );
-  writing = λ table out exit r c.
-      as-it-was WriteAnswer.Refused _ (writeRefusal table out) r _ out exit (λ e. let z : _≡_ {A = ℕ} 0 1 = cc in omega arith) (c .says) (c .leaves);
-  scheduling = λ table out exit z r c.
-      as-it-was ScheduleAnswer.Refused _ (scheduleRefusal table z out) r _ out exit (no-timing (length (scheduleRows table z)) (lateJob (scheduleRows table z)) r) (c .says) (c .leaves);
-  showing = λ table out exit r c.
-      as-it-was PatternAnswer.Refused _ (patternRefusal table out) r _ out exit (λ e. let z : _≡_ {A = ℕ} 0 1 = cc in omega arith) (c .says) (c .leaves);
-  reporting = λ number text out exit r c.
-      as-it-was ReportAnswer.Refused _ (reportRefusal number text out) r _ out exit (λ e. let z : _≡_ {A = ℕ} 0 1 = cc in omega arith) (c .says) (c .leaves);
+  reading = read-untouched;
+  writing = write-untouched;
+  scheduling = schedule-untouched;
+  showing = pattern-untouched;
+  reporting = report-untouched;
 }

@@ -8,22 +8,22 @@ use mathlib.Core.Bool.{Bool, true, false}
 use mathlib.Core.Option.{Option, none, some}
 use Rattle.rules.specs.Task.{tasksOf, AllSound}
 use Rattle.rules.specs.declared.Task.{Task}
-use Rattle.rules.specs.Refusals.{answering}
 use Rattle.rules.specs.Table.{tableRefusal}
 use Rattle.rules.specs.Dispatch.{Job}
 use Rattle.rules.specs.Jobs.{named}
 use Rattle.rules.specs.Legal.{Legal}
-use Rattle.rules.specs.Demand.{fails, closes, firstFail, blocker, verdict}
+use Rattle.rules.specs.Demand.{fails, closes, verdict}
 use Rattle.rules.specs.Answers.{verdictAnswer}
 use Rattle.rules.specs.declared.Refusal.{Refusal}
 use Rattle.rules.specs.declared.Verdict.{Verdict}
-use Rattle.rules.specs.declared.VerdictAnswer.{VerdictAnswer}
 use Rattle.rules.proofs.Tables.{table-sound}
-use Rattle.rules.proofs.Verdicts.{First, misses-when, meets-when, too-far-when, first-when, steady-not-first}
+use Rattle.rules.proofs.Calls.{verdict-refused, verdict-judged}
+use Rattle.rules.proofs.Verdicts.{First, misses-when, meets-when, too-far-when, steady-not-first}
 use Rattle.rules.proofs.Meets.{meets}
 use Rattle.rules.proofs.Misses.{misses}
 use Rattle.rules.proofs.Least.{least-below}
-use Rattle.promises.specs.Demands.{InTime, MakesLate, Least, Condition, Kept, KeptBy, TrueOfEveryPattern}
+use Rattle.promises.specs.Tables.{Least}
+use Rattle.promises.specs.Demands.{InTime, MakesLate, Condition, Kept, KeptBy, TrueOfEveryPattern}
 use Rattle.promises.specs.Sharper.{Sharper}
 use Rattle.promises.proofs.Whole.{legal-whole}
 
@@ -34,7 +34,7 @@ least-of p x f = (f .low, f .high, f .passes, f .none-before)
 first-of : (p : ℕ → Bool) (x : ℕ) → Least p x → First p x
 first-of p x l = record { low = l .0; high = l .1; passes = l .2; none-before = l .3 }
 
-exactly : (ts : List Task) (v : Verdict) → (verdict ts ≡ v) ↔ Condition ts v
+pub exactly : (ts : List Task) (v : Verdict) → (verdict ts ≡ v) ↔ Condition ts v
 exactly ts (Verdict.Misses L b) = (
   λ e. let h = misses-when ts L b .0 e in (least-of _ L (h .0), h .1),
   λ h. misses-when ts L b .1 (first-of _ L (h .0), h .1),
@@ -46,10 +46,10 @@ exactly ts (Verdict.Meets σ) = (
 exactly ts Verdict.TooFar = too-far-when ts
 
 module _ (ts : List Task) (sound : AllSound ts) where
-  in-time : (σ : ℕ) → 1 ≤ σ → closes σ ts ≡ true → ((L : ℕ) → 1 ≤ L → L < σ → fails L ts ≡ false) → (js : List Job) → Legal ts js → InTime js
+  pub in-time : (σ : ℕ) → 1 ≤ σ → closes σ ts ≡ true → ((L : ℕ) → 1 ≤ L → L < σ → fails L ts ≡ false) → (js : List Job) → Legal ts js → InTime js
   in-time σ pos e ok js l = record { whole = legal-whole ts sound js l; on-time = meets ts sound σ pos e ok js l }
 
-  makes-late : (L : ℕ) → fails L ts ≡ true → MakesLate ts (named L ts)
+  pub makes-late : (L : ℕ) → fails L ts ≡ true → MakesLate ts (named L ts)
   makes-late L e =
       let x = misses ts sound L e in
       record { legal = x .0; for-C = x .1; whole = legal-whole ts sound (named L ts) (x .0); late-row = x .2 }
@@ -65,12 +65,11 @@ module _ (ts : List Task) (sound : AllSound ts) where
   kept = kept-if (verdict ts) (exactly ts (verdict ts) .0 refl)
 
   pub sharper : Sharper ts
-  unfolding firstFail
   sharper = record {
     below-the-span = in-time;
     any-length = makes-late;
     least-below = least-below ts sound;
-    no-growth = λ L e l. steady-not-first ts sound L e (first-when _ L .1 (first-of _ L l));
+    no-growth = λ L e l. steady-not-first ts sound L e (first-of _ L l);
   }
 
 -- so for every table
@@ -79,12 +78,11 @@ kept-table table e = kept (tasksOf table) (table-sound table e)
 
 -- and the verdict call's answer
 pub kept-by : (table : List ℕ) → KeptBy table (verdictAnswer table)
-unfolding verdictAnswer
 kept-by table = go (tableRefusal table) refl
   where
-    go : (o : Option Refusal) → tableRefusal table ≡ o → KeptBy table (answering o VerdictAnswer.Refused (VerdictAnswer.Judged (verdict (tasksOf table))))
-    go none e = kept-table table e
-    go (some r) e = tt
+    go : (o : Option Refusal) → tableRefusal table ≡ o → KeptBy table (verdictAnswer table)
+    go none e = rw (verdict-judged table e) (kept-table table e)
+    go (some r) e = rw (verdict-refused table r e) tt
 
 pub true-of-every-pattern : TrueOfEveryPattern
 true-of-every-pattern = record {

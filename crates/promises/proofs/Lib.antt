@@ -3,3 +3,11 @@ pub mod EndsWell
 pub mod Trips
 pub mod Whole
 pub mod Kept
+mod Exact
+mod Texts
+mod Judged
+mod Shown
+pub mod Dispatched
+pub mod CallForC
+mod Printing
+pub mod Numbers

@@ -3,23 +3,25 @@ use mathlib.Core.Path.{_≡_}
 use mathlib.Core.Logic.{_↔_}
 use Prim.Native.Nat.{ℕ, _+_, _*_, _/_, _≤_, _<_}
 use mathlib.Core.List.{List, [], _∷_, _++_, List·Memᴰ}
-use mathlib.Core.Bool.{Bool, true, false}
+use mathlib.Core.Bool.{true, false}
 use mathlib.Core.Option.{none, some}
-use lib.ListN.{length, drop}
+use lib.ListN.{length, take, drop}
 use Rattle.rules.specs.Choice.{if_then_else_}
-use Rattle.rules.specs.Task.{tasksOf, taskAt, AllSound}
 use Rattle.rules.specs.declared.Task.{Task}
+use Rattle.rules.specs.Task.{tasksOf, taskAt, AllSound}
 use Rattle.rules.specs.Refusals.{numberOf}
-use Rattle.rules.specs.Table.{tableRefusal}
-use Rattle.rules.specs.Dispatch.{Job, Row, late, same, dispatch, lateJob, rowWords}
-use Rattle.rules.specs.Jobs.{concrete, named}
+use Rattle.rules.specs.Table.{tableRefusal, FirstOut, Fine}
+use Rattle.rules.specs.Told.{Told, readTold, writeTold, scheduleTold, verdictTold, patternTold, reportTold}
+use Rattle.rules.specs.Dispatch.{Job, Row, late, same, dispatch, lateJob}
+use Rattle.rules.specs.Policy.{Obeys, NamedLate}
+use Rattle.rules.specs.Jobs.{OnTrain, concrete, named}
 use Rattle.rules.specs.Legal.{Legal}
-use Rattle.rules.specs.Demand.{fails, closes, blocker, verdict}
-use Rattle.rules.specs.Text.{took, readSet, writeSet}
-use Rattle.rules.specs.Answers.{timing, verdictAnswer, checkNumber}
+use Rattle.rules.specs.Demand.{Wait, fails, closes, blocker, Blocks, verdict}
+use Rattle.rules.specs.Text.{bytes, took, stop, readSet, writeSet}
+use Rattle.rules.specs.Answers.{readAnswer, readTable, readRest, writeAnswer, writeBuffer, scheduleAnswer, scheduleBuffer, verdictAnswer, patternAnswer, patternBuffer, firstAnswer, checkNumber}
+use Rattle.rules.specs.Report.{reportAnswer, reportBuffer, output}
 use Rattle.rules.specs.Calls.{Reads, Writes, Schedules, Shows, Reports}
 use Rattle.rules.specs.declared.Refusal.{Refusal}
-use Rattle.rules.specs.declared.Blocker.{Blocker}
 use Rattle.rules.specs.declared.Verdict.{Verdict}
 use Rattle.rules.specs.declared.ReadAnswer.{ReadAnswer}
 use Rattle.rules.specs.declared.WriteAnswer.{WriteAnswer}
@@ -27,6 +29,7 @@ use Rattle.rules.specs.declared.ScheduleAnswer.{ScheduleAnswer}
 use Rattle.rules.specs.declared.VerdictAnswer.{VerdictAnswer}
 use Rattle.rules.specs.declared.PatternAnswer.{PatternAnswer}
 use Rattle.rules.specs.declared.ReportAnswer.{ReportAnswer}
+use Rattle.promises.specs.Tables.{Least, None, ReaderTells, WriterTells, ScheduleTells, JudgeTells, PatternTells, FirstTells, ReportTells, Run}
 
 -- 1. ANY INPUT ENDS WELL. Any table, any text, any lent buffer gets an answer or a numbered refusal. A refusal changes no lent buffer.
 
@@ -57,10 +60,54 @@ pub record Untouched : Type 0 where
 
 -- 2. THE NUMBERS ARE THE PAPER'S. Rows, late job, verdict and text each equal a definition.
 
--- writing then reading gives the numbers back, whatever follows; reading an in-range set then writing gives the bytes back
+-- each call tells and leaves what the paper's tables say (Tables.antt): what it gives stands in its table, and whatever stands there it gives
+pub record PaperNumbers : Type 0 where
+  pub reading : (text table : List ℕ) (t : Told) (rest exit : List ℕ)
+      → ((readTold (readAnswer text table) ≡ t) × (readRest text table ≡ rest) × (readTable text table ≡ exit)) ↔ ReaderTells text table t rest exit
+  pub writing : (table out : List ℕ) (t : Told) (exit : List ℕ)
+      → ((writeTold (writeAnswer table out) ≡ t) × (writeBuffer table out ≡ exit)) ↔ WriterTells table out t exit
+  pub scheduling : (table : List ℕ) (z : ℕ) (out : List ℕ) (t : Told) (exit : List ℕ)
+      → ((scheduleTold (scheduleAnswer table z out) ≡ t) × (scheduleBuffer table z out ≡ exit)) ↔ ScheduleTells table z out t exit
+  pub judging : (table : List ℕ) (t : Told) → (verdictTold (verdictAnswer table) ≡ t) ↔ JudgeTells table t
+  pub showing : (table out : List ℕ) (t : Told) (exit : List ℕ)
+      → ((patternTold (patternAnswer table out) ≡ t) × (patternBuffer table out ≡ exit)) ↔ PatternTells table out t exit
+  pub first : (text : List ℕ) (t : Told) → (verdictTold (firstAnswer text) ≡ t) ↔ FirstTells text t
+  pub reporting : (n : ℕ) (text out : List ℕ) (t : Told) (exit : List ℕ)
+      → ((reportTold (reportAnswer n text out) ≡ t) × (reportBuffer n text out ≡ exit)) ↔ ReportTells n text out t exit
+  pub too-long : (input : List ℕ) → 32768 < length input → output input ≡ bytes "toolong" ++ (10 ∷ [])
+  pub printing : (input printed : List ℕ) → length input ≤ 32768 → (output input ≡ printed) ↔ Run 1 input printed
+
+-- the dispatcher: the rows of a legal pattern obey the rules of document 01, and whatever obeys them is these rows; the late job named is late,
+-- and no late job has a lesser deadline, or an equal one and a lower task
+pub record Dispatcher : Type 0 where
+  pub rules : (ts : List Task) → AllSound ts → (js : List Job) → Legal ts js → (ws : List Row) → Obeys 0 js ws ↔ (ws ≡ dispatch js)
+  pub none-late : (ws : List Row) → (lateJob ws ≡ none) ↔ ((w : Row) → List·Memᴰ w ws → late w ≡ false)
+  pub late-job : (ws : List Row) (j : Job) → lateJob ws ≡ some j → (w : Row) × NamedLate ws w × (w .job ≡ j)
+
+-- the jobs: in the concrete schedule those of each task from R on that are released before Z; in the named pattern of L without a blocker those
+-- from 0 on that are due by L; with one, its own at 0, and those of the other tasks from 1 on that are due by L + 1
+pub record JobLists (ts : List Task) : Type 0 where
+  pub concrete-legal : (z : ℕ) → Legal ts (concrete z ts)
+  pub named-legal : (L : ℕ) → Legal ts (named L ts)
+  pub concrete-jobs : (z : ℕ) (j : Job)
+      → List·Memᴰ j (concrete z ts) ↔ ((j .task < length ts) × (j .release < z) × OnTrain (taskAt ts (j .task) .R) (taskAt ts (j .task)) j)
+  pub named-alone : (L : ℕ) (j : Job) → Wait L ts ≡ 0
+      → List·Memᴰ j (named L ts) ↔ ((j .task < length ts) × (j .deadline ≤ L) × OnTrain 0 (taskAt ts (j .task)) j)
+  pub named-blocker : (L : ℕ) (j : Job) → 0 < Wait L ts → Blocks L ts (j .task)
+      → List·Memᴰ j (named L ts) ↔ ((j .number ≡ 0) × OnTrain 0 (taskAt ts (j .task)) j)
+  pub named-others : (L b : ℕ) (j : Job) → 0 < Wait L ts → Blocks L ts b → (j .task ≡ b → ⊥)
+      → List·Memᴰ j (named L ts) ↔ ((j .task < length ts) × (j .deadline ≤ L + 1) × OnTrain 1 (taskAt ts (j .task)) j)
+
+-- writing then reading gives the numbers back, whatever follows; reading an in-range set then writing gives the bytes back: by the definitions,
+-- and of whatever meets the calls' contracts
 pub record RoundTrips : Type 0 where
   pub write-then-read : (table after : List ℕ) → tableRefusal table ≡ none → readSet (writeSet table ++ after) ≡ took table after
   pub read-then-write : (text words after : List ℕ) → readSet text ≡ took words after → tableRefusal words ≡ none → writeSet words ++ after ≡ text
+  pub written-is-read : (table out text : List ℕ) (n : ℕ) → Writes table out (WriteAnswer.Written n) text
+      → (after room : List ℕ) → length table ≤ length room → (answer : ReadAnswer) (rest exit : List ℕ) → Reads (take n text ++ after) room answer rest exit
+      → (answer ≡ ReadAnswer.Set (length table / 4)) × (rest ≡ after) × (exit ≡ table ++ drop (length table) room)
+  pub read-is-written : (text table rest words : List ℕ) (n : ℕ) → Reads text table (ReadAnswer.Set n) rest words
+      → (out exit : List ℕ) (k : ℕ) → Writes (take (4 * n) words) out (WriteAnswer.Written k) exit → take k exit ++ rest ≡ text
 
 -- 3. THE VERDICT IS TRUE OF EVERY ARRIVAL PATTERN. "Meets": no legal pattern, with run times from 1 to C, makes any job late.
 -- "Misses": the named pattern makes one late. "Too far" is given only on its condition.
@@ -87,14 +134,6 @@ pub record MakesLate (ts : List Task) (js : List Job) : Type 0 where
   pub whole : Whole js
   pub late-row : (w : Row) × List·Memᴰ w (dispatch js) × (late w ≡ true)
 
--- x is the least number from 1 to H that passes a test
-abbrev pub Least : (ℕ → Bool) → ℕ → Type 0
-Least p x = (1 ≤ x) × (x ≤ 100000) × (p x ≡ true) × ((y : ℕ) → 1 ≤ y → y < x → p y ≡ false)
-
--- no number from 1 to H passes
-abbrev pub None : (ℕ → Bool) → Type 0
-None p = (y : ℕ) → 1 ≤ y → y ≤ 100000 → p y ≡ false
-
 -- when each verdict is due, with what it carries
 abbrev pub Condition : List Task → Verdict → Type 0
 Condition ts (Verdict.Misses L b) = Least (λ K. fails K ts) L × (b ≡ blocker L ts)
@@ -120,3 +159,20 @@ pub record TrueOfEveryPattern : Type 0 where
   pub kept : (ts : List Task) → AllSound ts → Kept ts (verdict ts)
   pub kept-table : (table : List ℕ) → tableRefusal table ≡ none → Kept (tasksOf table) (verdict (tasksOf table))
   pub kept-by : (table : List ℕ) → KeptBy table (verdictAnswer table)
+
+-- THE C CALL in one sentence. Of a text whose first set was read and is in range, a statement about its tasks
+abbrev pub Read : List ℕ → (List Task → Type 0) → Type 0
+Read text P = (ws : List ℕ) × (after : List ℕ) × (readSet text ≡ took ws after) × Fine ws × P (tasksOf ws)
+
+-- 100: every legal pattern is in time; 101: the named pattern makes a job late; 102 on its condition; else 4 or 7, and no other number
+pub data CallSays (text : List ℕ) : ℕ → Type 0 where
+  meets : Read text (λ ts. (js : List Job) → Legal ts js → InTime js) → CallSays text 100
+  misses : Read text (λ ts. (L : ℕ) × Least (λ K. fails K ts) L × MakesLate ts (named L ts)) → CallSays text 101
+  too-far : Read text (λ ts. None (λ K. fails K ts) × None (λ t. closes t ts)) → CallSays text 102
+  bad-word : {ws after : List ℕ} {i : ℕ} → readSet text ≡ took ws after → FirstOut ws i → CallSays text 4
+  bad-line : {l : ℕ} → readSet text ≡ stop l → CallSays text 7
+
+-- so it is for every text
+pub record CallForC : Type 0 where
+  pub says : (text : List ℕ) → CallSays text (checkNumber text)
+  pub safe : (text : List ℕ) → checkNumber text ≡ 100 → Read text (λ ts. (js : List Job) → Legal ts js → InTime js)

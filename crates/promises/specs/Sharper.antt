@@ -8,7 +8,8 @@ use Rattle.rules.specs.Dispatch.{Job}
 use Rattle.rules.specs.Jobs.{named}
 use Rattle.rules.specs.Legal.{Legal}
 use Rattle.rules.specs.Demand.{Due, fails, closes}
-use Rattle.promises.specs.Demands.{InTime, MakesLate, Least}
+use Rattle.promises.specs.Tables.{Least}
+use Rattle.promises.specs.Demands.{InTime, MakesLate}
 
 -- the facts that later work leans on
 pub record Sharper (ts : List Task) : Type 0 where

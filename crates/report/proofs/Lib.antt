@@ -1,5 +1,3 @@
--- Laws of the report; Promises has the proofs of specs/Promises, which callers cite.
-pub mod Parts
-pub mod Sets
-pub mod Reported
-pub mod Promises
+-- Laws of the report's parts, and of its outcome by the room that there is.
+mod Parts
+mod Reported

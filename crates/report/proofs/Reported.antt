@@ -1,57 +1,35 @@
--- The report's answer and buffer, by the room that there is.
-use mathlib.Core.Path.{_≡_, ap, _∙_}
-use Prim.Native.Nat.{ℕ, _+_, _≤_, _<_}
-use native.Mathlib.Nat.{zero-add}
+-- The report's outcome, by the room that there is for the lines of the answer that was found.
+use mathlib.Core.Path.{_≡_, sym, ap, ap₂, _∙_}
+use Prim.Native.Nat.{ℕ, _≤_, _<_}
 use native.Mathlib.Omega.{arith}
 use mathlib.Core.List.{List, _++_}
-use mathlib.Core.Option.{none, some}
-use lib.ListN.{length, take, drop}
-use lib.Seq.{take-at}
-use borrow.Author.Tests.{lt-ltb, le-ltb}
-use Rattle.rules.specs.Report.{setLines, reportRefusal, reportAnswer, reportBuffer}
+use lib.ListN.{length, drop}
+use Rattle.rules.specs.Text.{bytes, digits, line}
+use Rattle.rules.specs.Report.{answerLines, setLines}
 use Rattle.rules.specs.Calls.{Reports}
 use Rattle.rules.specs.declared.Refusal.the-variants.{TooShort}
+use Rattle.rules.specs.declared.VerdictAnswer.{VerdictAnswer}
 use Rattle.rules.specs.declared.ReportAnswer.the-variants.{Reported, Refused}
-use Rattle.lines.specs.Line.{put, Puts}
-use Rattle.report.specs.First.{linesOf, Judges}
+use Rattle.rules.proofs.Calls.{report-short, report-lines}
+use Rattle.rules.proofs.Printed.{lines-are}
+use Rattle.report.specs.First.{Judges}
 use Rattle.report.specs.declared.First.{First}
-use Rattle.report.proofs.Sets.{lines-are}
 
--- bytes put at the start are the first bytes
-at-start : {l m : List ℕ} {r : ℕ} (vs : List ℕ) → Puts l 0 vs r m → take r m ≡ vs
-at-start {l} {m} {r} vs p =
-    let e : length vs ≡ r = omega (arith, p .says) in
-    ap (take r) (p .leaves) ∙ take-at vs (drop (0 + length vs) l) r e
+module _ (n : ℕ) (text out : List ℕ) (first : First) (judged : Judges text first) where
+  are-the-lines : line (bytes "set=") (digits n) ++ answerLines (first .answer) ≡ setLines n text
+  are-the-lines = ap (λ (a : VerdictAnswer). line (bytes "set=") (digits n) ++ answerLines a) (judged .says) ∙ sym (lines-are n text)
 
--- and put from there at the start of another list
-pub on-page : {l m k j : List ℕ} {r q : ℕ} (vs : List ℕ) → Puts l 0 vs r m → Puts k 0 (take r m) q j → Puts k 0 vs r j
-on-page {l} {m} {k} {j} {r} {q} vs p s = record { says = p .says; leaves = s .leaves ∙ ap (put k 0) (at-start vs p) }
+  -- there is no room for them
+  pub short : length out < length (line (bytes "set=") (digits n) ++ answerLines (first .answer)) → Reports n text out (Refused TooShort) out
+  short h = report-short n text out (omega (arith, ap length are-the-lines))
 
-module _ (n : ℕ) (text out : List ℕ) where
-  no-room : length out < length (setLines n text) → reportRefusal n text out ≡ some TooShort
-  unfolding reportRefusal
-  no-room h = rw (lt-ltb _ _ h)
-
-  pub room : length (setLines n text) ≤ length out → reportRefusal n text out ≡ none
-  unfolding reportRefusal
-  room h = rw (le-ltb _ _ h)
-
-  -- by what was found of the first set
-  module _ (first : First) (j : Judges text first) where
-    its-lines : linesOf n (first .answer) ≡ setLines n text
-    its-lines = ap (linesOf n) (j .says) ∙ lines-are text n
-
-    pub short : length out < length (linesOf n (first .answer)) → Reports n text out (Refused TooShort) out
-    unfolding reportAnswer reportBuffer
-    short h =
-        let e = no-room (omega (arith, ap length its-lines)) in
-        record { says = rw e; leaves = rw e }
-
-    pub told : length (linesOf n (first .answer)) ≤ length out → (r : ℕ) (exit : List ℕ) → Puts out 0 (linesOf n (first .answer)) r exit
-        → Reports n text out (Reported r (first .left)) exit
-    unfolding reportAnswer reportBuffer
-    told h r exit p =
-        let e = room (omega (arith, ap length its-lines)) in
-        let k : r ≡ length (setLines n text) = omega (arith, ap length its-lines, p .says) in
-        let z = zero-add (length (setLines n text)) in
-        record { says = rw (e, k, j .leaves); leaves = p .leaves ∙ rw (e, its-lines) (ap (λ (m : ℕ). setLines n text ++ drop m out) z) }
+  -- they stand at the start
+  pub told : (size : ℕ) (exit : List ℕ) → size ≡ length (line (bytes "set=") (digits n) ++ answerLines (first .answer)) → size ≤ length out
+      → exit ≡ (line (bytes "set=") (digits n) ++ answerLines (first .answer)) ++ drop (length (line (bytes "set=") (digits n) ++ answerLines (first .answer))) out
+      → Reports n text out (Reported size (first .left)) exit
+  told size exit e h l =
+      let due = report-lines n text out (omega (arith, ap length are-the-lines)) in
+      record {
+        says = ap₂ Reported (e ∙ ap length are-the-lines) (judged .leaves) ∙ due .says;
+        leaves = l ∙ ap (λ (vs : List ℕ). vs ++ drop (length vs) out) are-the-lines ∙ due .leaves;
+      }

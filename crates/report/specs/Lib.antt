@@ -1,3 +1,2 @@
--- What the calls of the report promise to each other, and what follows from the report's promise.
+-- What the calls of the report promise to each other.
 pub mod First
-pub mod Promises

@@ -1,17 +1,23 @@
 // The report of one set: the lines that the program prints for the first set of a text.
 ghost use Prim.Native.Nat.{_+_, _≤_};
+ghost use mathlib.Core.List.{_++_};
 ghost use lib.ListN.{length};
-ghost use Rattle.rules.specs.Text.{bytes, line};
-ghost use Rattle.rules.specs.Report.{blockerWord, verdictLines, carriedLine, refusalLines};
+ghost use Rattle.rules.specs.Refusals.{carriedLine};
+ghost use Rattle.rules.specs.Text.{bytes, digits, line};
+ghost use Rattle.rules.specs.Report.{blockerWord, verdictLines, refusalLines, answerLines};
 ghost use Rattle.rules.specs.Calls.{Reports};
-ghost use Rattle.lines.specs.Line.{Puts};
-ghost use Rattle.report.specs.First.{answerLines, linesOf, Judges};
+ghost use Rattle.print.specs.Place.{Puts};
+ghost use Rattle.report.specs.First.{Judges};
 use rules::Blocker;
+use rules::Carried;
 use rules::ReadAnswer;
 use rules::Refusal;
 use rules::ReportAnswer;
 use rules::Verdict;
 use rules::VerdictAnswer;
+
+// The most bytes that the lines for a set can take.
+pub const LINES_MOST: usize = 67;
 
 // What is found of the first set: the verdict or the refusal, and how many bytes are left to read.
 struct First {
@@ -25,8 +31,8 @@ fn put_blocker(out: &mut [u8], at: usize, blocker: Blocker) -> usize
     ensures { λ r. ⌜ Puts (now (out .entry)) at (line (bytes "blocker=") (blockerWord blocker)) r (now (out .exit)) ⌝ }
 {
     match blocker {
-        Blocker::Task(k) => lines::put_line(out, at, b"blocker=", k),
-        Blocker::Nobody => lines::put_word_line(out, at, b"blocker=", b"none"),
+        Blocker::Task(k) => print::put_line(out, at, b"blocker=", k),
+        Blocker::Nobody => print::put_word_line(out, at, b"blocker=", b"none"),
     }
 }
 
@@ -35,8 +41,8 @@ fn put_meets(out: &mut [u8], at: usize, span: u32) -> usize
     requires { ⌜ at + length (verdictLines (Verdict.Meets span)) ≤ length (now out) ⌝ }
     ensures { λ r. ⌜ Puts (now (out .entry)) at (verdictLines (Verdict.Meets span)) r (now (out .exit)) ⌝ }
 {
-    let a = lines::put_word_line(out, at, b"verdict=", b"meets");
-    lines::put_line(out, a, b"span=", span)
+    let after_word = print::put_word_line(out, at, b"verdict=", b"meets");
+    print::put_line(out, after_word, b"span=", span)
 }
 
 // The lines of a "misses" are put at a place.
@@ -44,9 +50,9 @@ fn put_misses(out: &mut [u8], at: usize, least: u32, blocker: Blocker) -> usize
     requires { ⌜ at + length (verdictLines (Verdict.Misses least blocker)) ≤ length (now out) ⌝ }
     ensures { λ r. ⌜ Puts (now (out .entry)) at (verdictLines (Verdict.Misses least blocker)) r (now (out .exit)) ⌝ }
 {
-    let a = lines::put_word_line(out, at, b"verdict=", b"misses");
-    let b = lines::put_line(out, a, b"length=", least);
-    put_blocker(out, b, blocker)
+    let after_word = print::put_word_line(out, at, b"verdict=", b"misses");
+    let after_length = print::put_line(out, after_word, b"length=", least);
+    put_blocker(out, after_length, blocker)
 }
 
 // A verdict's lines are put at a place.
@@ -57,19 +63,19 @@ fn put_verdict(out: &mut [u8], at: usize, verdict: Verdict) -> usize
     match verdict {
         Verdict::Meets(span) => put_meets(out, at, span),
         Verdict::Misses(least, blocker) => put_misses(out, at, least, blocker),
-        Verdict::TooFar => lines::put_word_line(out, at, b"verdict=", b"toofar"),
+        Verdict::TooFar => print::put_word_line(out, at, b"verdict=", b"toofar"),
     }
 }
 
 // The line of what a refusal carries is put at a place.
-fn put_carried(out: &mut [u8], at: usize, refusal: Refusal) -> usize
-    requires { ⌜ at + length (carriedLine refusal) ≤ length (now out) ⌝ }
-    ensures { λ r. ⌜ Puts (now (out .entry)) at (carriedLine refusal) r (now (out .exit)) ⌝ }
+fn put_carried(out: &mut [u8], at: usize, carried: Carried) -> usize
+    requires { ⌜ at + length (carriedLine carried) ≤ length (now out) ⌝ }
+    ensures { λ r. ⌜ Puts (now (out .entry)) at (carriedLine carried) r (now (out .exit)) ⌝ }
 {
-    match refusal {
-        Refusal::OutOfRange(i) => lines::put_line(out, at, b"word=", i),
-        Refusal::BadLine(l) => lines::put_line(out, at, b"line=", l),
-        _ => at,
+    match carried {
+        Carried::Word(i) => print::put_line(out, at, b"word=", i),
+        Carried::Line(l) => print::put_line(out, at, b"line=", l),
+        Carried::Nothing => at,
     }
 }
 
@@ -79,8 +85,9 @@ fn put_refusal(out: &mut [u8], at: usize, refusal: Refusal) -> usize
     ensures { λ r. ⌜ Puts (now (out .entry)) at (refusalLines refusal) r (now (out .exit)) ⌝ }
 {
     let number = numbers::refusal_number(refusal);
-    let a = lines::put_line(out, at, b"refused=", number);
-    put_carried(out, a, refusal)
+    let carried = numbers::refusal_carries(refusal);
+    let after_number = print::put_line(out, at, b"refused=", number);
+    put_carried(out, after_number, carried)
 }
 
 // An answer's lines are put at a place.
@@ -94,34 +101,33 @@ fn put_answer(out: &mut [u8], at: usize, answer: VerdictAnswer) -> usize
     }
 }
 
-// The lines of a set with an answer are put at the start.
-fn put_set(out: &mut [u8], number: u32, answer: VerdictAnswer) -> usize
-    requires { ⌜ length (linesOf number answer) ≤ length (now out) ⌝ }
-    ensures { λ r. ⌜ Puts (now (out .entry)) 0 (linesOf number answer) r (now (out .exit)) ⌝ }
+// The lines of a set with an answer are put at a place.
+fn put_set(out: &mut [u8], at: usize, number: u32, answer: VerdictAnswer) -> usize
+    requires { ⌜ at + length (line (bytes "set=") (digits number) ++ answerLines answer) ≤ length (now out) ⌝ }
+    ensures { λ r. ⌜ Puts (now (out .entry)) at (line (bytes "set=") (digits number) ++ answerLines answer) r (now (out .exit)) ⌝ }
 {
-    let a = lines::put_line(out, 0, b"set=", number);
-    put_answer(out, a, answer)
+    let after_number = print::put_line(out, at, b"set=", number);
+    put_answer(out, after_number, answer)
 }
 
-// The first set of a text is judged. A table of 256 words has room for any set, so the reader refuses by 7 alone.
+// The first set of a text is judged. The table has room for any set, so the reader refuses by 7 alone, after which nothing is left to read.
 fn judge_first(text: &[u8]) -> First
     ensures { λ r. ⌜ Judges (now (text .entry)) r ⌝ }
 {
     let mut table = [0u32; 256];
     let mut code: u32 = 0;
     let mut number: u32 = 0;
-    let rest = text::read(text, &mut table, &mut code, &mut number);
-    let answer = text::read_answer(code, number);
-    let ReadAnswer::Set(n) = answer else {
-        return First {
-            answer: VerdictAnswer::Refused(Refusal::BadLine(number)),
+    let rest = reader::read(text, &mut table, &mut code, &mut number);
+    let read = reader::read_answer(code, number);
+    match read {
+        ReadAnswer::Set(n) => First {
+            answer: verdict::verdict(&table[..4 * n as usize]),
+            left: rest.len(),
+        },
+        ReadAnswer::Refused(r) => First {
+            answer: VerdictAnswer::Refused(r),
             left: 0,
-        };
-    };
-    let m = 4 * n as usize;
-    First {
-        answer: verdict::verdict(&table[..m]),
-        left: rest.len(),
+        },
     }
 }
 
@@ -133,12 +139,12 @@ pub fn report(number: u32, text: &[u8], out: &mut [u8]) -> ReportAnswer
     let first = judge_first(text);
     let answer = first.answer;
     let left = first.left;
-    let mut page = [0u8; 128];
-    let length = put_set(&mut page, number, answer);
+    let mut page = [0u8; LINES_MOST];
+    let length = put_set(&mut page, 0, number, answer);
     if out.len() < length {
         return ReportAnswer::Refused(Refusal::TooShort);
     }
-    lines::put_bytes(out, 0, &page[..length]);
+    print::put_bytes(out, 0, &page[..length]);
     ReportAnswer::Reported {
         length: length as u32,
         left,

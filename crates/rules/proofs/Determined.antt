@@ -7,24 +7,20 @@ use native.Mathlib.Omega.{arith}
 use native.Mathlib.Decide.{decLt}
 use mathlib.Core.List.{List, [], _∷_, List·Memᴰ, List·Memᴰ·head, List·Memᴰ·tail, List·Memᴰ·not-nil}
 use lib.ListN.{length}
-use Rattle.rules.specs.Task.{tasksOf, taskAt, AllSound}
+use Rattle.rules.specs.Task.{taskAt, AllSound}
 use Rattle.rules.specs.declared.Task.{Task}
-use Rattle.rules.specs.Table.{tableRefusal}
-use Rattle.rules.specs.Dispatch.{Job, Row, finish, pick, without, earliest, ready, rows, dispatch}
-use Rattle.rules.specs.Jobs.{planTrain, planned, concrete, named}
+use Rattle.rules.specs.Dispatch.{Job, Row, finish, pick, without, earliest, ready, rows, dispatch, lateJob}
+use Rattle.rules.specs.Jobs.{planTrain, planned}
 use Rattle.rules.specs.declared.Plan.{Plan}
 use Rattle.rules.specs.Legal.{Legal}
-use Rattle.rules.specs.Demand.{blocker, verdict}
-use Rattle.rules.specs.Answers.{scheduleRows, patternRows}
-use Rattle.rules.specs.declared.Blocker.{Blocker}
-use Rattle.rules.specs.declared.Verdict.{Verdict}
-use Rattle.rules.proofs.Tables.{table-sound}
 use Rattle.rules.proofs.Trains.{trains-legal}
 use Rattle.rules.proofs.Taken.{Taken, taken-mem, taken-cases, taken-length, taken-distinct, without-taken, Distinct}
 use Rattle.rules.proofs.Legal.{taskAt-sound, legal-fits, legal-distinct}
 use Rattle.rules.proofs.Picked.{Picked, Pick, nobody, somebody, picks, earliest-least, earliest-some}
-use Rattle.rules.specs.Policy.{Ahead, rowAt, NotStarted, Obeys}
+use Rattle.rules.specs.Policy.{Ahead, rowAt, NotStarted, Obeys, NamedLate}
+use Rattle.rules.proofs.Runs.{distinct-run, run-jobs}
 use Rattle.rules.proofs.Dispatcher.{taken-gone, dispatch-obeys}
+use Rattle.rules.proofs.LateJob.{late-only}
 
 -- two jobs of one task never have the same deadline
 abbrev pub NoTies : List Job → Type 0
@@ -150,17 +146,17 @@ legal-ties ts sound (h ∷ js) l = go (legal-ties ts sound js (l .2))
 pub legal-only : (ts : List Task) → AllSound ts → (js : List Job) → Legal ts js → (ws : List Row) → Obeys 0 js ws ↔ (ws ≡ dispatch js)
 legal-only ts sound js l = dispatch-only js (legal-distinct ts sound js l) (legal-ties ts sound js l)
 
--- the rows of the concrete schedule, and those of the pattern, are the only ones that obey the rules
-pub schedule-only : (table : List ℕ) → tableRefusal table ≡ none → (z : ℕ) (ws : List Row)
-    → Obeys 0 (concrete z (tasksOf table)) ws ↔ (ws ≡ scheduleRows table z)
+-- so it is for the jobs of any plan, whose trains make a legal pattern
+pub planned-legal : (p : Plan) (ts : List Task) → AllSound ts → Legal ts (planned p ts)
 unfolding planned
-schedule-only table f z =
-    legal-only (tasksOf table) (table-sound table f) (concrete z (tasksOf table)) (trains-legal (planTrain (Plan.Concrete z)) (tasksOf table) (table-sound table f))
+planned-legal p ts sound = trains-legal (planTrain p) ts sound
 
-pub pattern-only : (table : List ℕ) → tableRefusal table ≡ none → (L : ℕ) (b : Blocker) → verdict (tasksOf table) ≡ Verdict.Misses L b → (ws : List Row)
-    → Obeys 0 (named L (tasksOf table)) ws ↔ (ws ≡ patternRows table)
-unfolding planned
-pattern-only table f L b v ws =
-    rw v
-    (legal-only (tasksOf table) (table-sound table f) (named L (tasksOf table))
-    (trains-legal (planTrain (Plan.Named L (blocker L (tasksOf table)))) (tasksOf table) (table-sound table f)) ws)
+pub planned-only : (p : Plan) (ts : List Task) → AllSound ts → (ws : List Row) → Obeys 0 (planned p ts) ws ↔ (ws ≡ dispatch (planned p ts))
+planned-only p ts sound = legal-only ts sound (planned p ts) (planned-legal p ts sound)
+
+-- and the late job of a legal pattern that is named is the only one that can be
+pub legal-late : (ts : List Task) → AllSound ts → (js : List Job) → Legal ts js → (w : Row) → NamedLate (dispatch js) w
+    → lateJob (dispatch js) ≡ some (w .job)
+legal-late ts sound js l =
+    let jobs = run-jobs (distinct-run js (legal-distinct ts sound js l)) in
+    late-only (dispatch js) (λ v m u n. legal-ties ts sound js l (v .job) (jobs v m) (u .job) (jobs u n))

@@ -94,6 +94,15 @@ module _ (v : ℕ) where
   pub width-more : 10 ≤ v → v < 10 ^ 10 → length (digits v) ≡ suc (length (digits (v / 10)))
   width-more h l = ap length (digits-more h l) ∙ one-more (digits (v / 10)) (48 + v % 10)
 
+  -- there is one at least
+  pub digits-least : 1 ≤ length (digits v)
+  unfolding digits
+  digits-least =
+      elim (decLt v 10) [
+        | yes a ↦ omega (arith, ap length (within-one 9 v a))
+        | no a ↦ omega (arith, ap length (within-more 9 v (omega arith)), one-more (digitsWithin 9 (v / 10)) (48 + v % 10))
+      ]
+
   pub digits-some : v < 10 ^ 10 → 1 ≤ length (digits v)
   digits-some l =
       elim (decLt v 10) [

@@ -2,33 +2,16 @@
 use mathlib.Core.Path.{_≡_, refl, sym, ap, _∙_}
 use mathlib.Core.Logic.{_↔_}
 use mathlib.Core.Option.{Option, none, some}
-use Prim.Native.Nat.{ℕ}
+use Prim.Native.Nat.{ℕ, _≤_, _<_}
 use native.Mathlib.Omega.{arith}
-use mathlib.Core.List.{List, [], _∷_, List·Memᴰ, List·Memᴰ·head, List·Memᴰ·tail, List·Memᴰ·not-nil}
-use mathlib.Core.Bool.{Bool, true, false, _&&_, _||_}
-use lib.Dec.{ltb, eqb}
-use borrow.Author.Tests.{ltb-true, eqb-true}
+use mathlib.Core.List.{List, [], _∷_, _++_, List·Memᴰ, List·Memᴰ·head, List·Memᴰ·tail, List·Memᴰ·not-nil}
+use mathlib.Core.Bool.{Bool, true, false}
+use borrow.Author.Tests.{lt-ltb, le-ltb}
 use Rattle.rules.specs.Choice.{if_then_else_}
-use Rattle.rules.specs.Dispatch.{Job, Row, late, before, sooner, lateJob}
+use Rattle.rules.specs.Dispatch.{Job, Row, finish, late, before, sooner, lateJob}
 use Rattle.rules.proofs.Booleans.{true-is-not-false}
 use Rattle.rules.specs.Policy.{Ahead, NamedLate}
-use Rattle.rules.proofs.Picked.{ahead-self, ahead-trans, before-true, before-false}
-
--- one that is ahead is not gone before
-pub ahead-first : (j i : Job) → Ahead j i → before i j ≡ false
-unfolding before
-ahead-first j i a = go (ltb (i .deadline) (j .deadline)) refl (eqb (i .deadline) (j .deadline)) refl (ltb (i .task) (j .task)) refl
-  where
-    go : (p : Bool) → ltb (i .deadline) (j .deadline) ≡ p → (q : Bool) → eqb (i .deadline) (j .deadline) ≡ q
-        → (r : Bool) → ltb (i .task) (j .task) ≡ r → p || (q && r) ≡ false
-    go true e q f r g = let l = ltb-true (i .deadline) (j .deadline) e in absurd (omega arith)
-    go false e false f r g = refl
-    go false e true f false g = refl
-    go false e true f true g =
-        let d = eqb-true (i .deadline) (j .deadline) f in
-        let l = ltb-true (i .task) (j .task) g in
-        let h = a .task (sym d) in
-        absurd (omega arith)
+use Rattle.rules.proofs.Order.{ahead-self, ahead-trans, before-true, before-false, sooner-none, earlier, earlier-assoc}
 
 -- j is the job of a late row, and is ahead of every late row's job
 record Latest (ws : List Row) (j : Job) : Type 0 where
@@ -92,32 +75,54 @@ late-none ws = go (lateJob ws) (names ws)
     go (some j) (somebody x) =
         (λ e. let z : _≡_ {A = ℕ} 0 1 = cc in absurd (omega arith), λ g. true-is-not-false (sym (x .is-late) ∙ g (x .row) (x .mem)))
 
--- else it is the job of a late row, and no late row's job goes before it
-pub late-some : (ws : List Row) (j : Job) → lateJob ws ≡ some j
-    → ((w : Row) × List·Memᴰ w ws × (late w ≡ true) × (w .job ≡ j))
-    × ((v : Row) → List·Memᴰ v ws → late v ≡ true → before (v .job) j ≡ false)
-late-some ws j = go (lateJob ws) (names ws)
+-- else it is the job of a late row, and no late row's job has a lesser deadline, or an equal one and a lower task
+pub late-row : (ws : List Row) (j : Job) → lateJob ws ≡ some j → (w : Row) × NamedLate ws w × (w .job ≡ j)
+late-row ws j = go (lateJob ws) (names ws)
   where
-    go : (o : Option Job) → Named ws o → o ≡ some j
-        → ((w : Row) × List·Memᴰ w ws × (late w ≡ true) × (w .job ≡ j))
-        × ((v : Row) → List·Memᴰ v ws → late v ≡ true → before (v .job) j ≡ false)
+    go : (o : Option Job) → Named ws o → o ≡ some j → (w : Row) × NamedLate ws w × (w .job ≡ j)
     go none (nobody f) e = let z : _≡_ {A = ℕ} 0 1 = cc in absurd (omega arith)
     go (some i) (somebody x) e =
         let q : i ≡ j = cc in
-        ((x .row, x .mem, x .is-late, x .its-job ∙ q), λ v m h. rw q at (ahead-first i (v .job) (x .ahead v m h)))
+        (x .row, record { row = x .mem; is-late = x .is-late; ahead = λ v m h. rw (x .its-job) (x .ahead v m h) }, x .its-job ∙ q)
 
--- and where two jobs of one task never have the same deadline, no other job is both
-pub late-only : (ws : List Row) → ((v : Row) → List·Memᴰ v ws → (w : Row) → List·Memᴰ w ws → v .job .task ≡ w .job .task → v .job .deadline ≡ w .job .deadline → v .job ≡ w .job)
-    → (w : Row) → List·Memᴰ w ws → late w ≡ true → ((v : Row) → List·Memᴰ v ws → late v ≡ true → before (v .job) (w .job) ≡ false)
-    → lateJob ws ≡ some (w .job)
-late-only ws ties w m l first = go (lateJob ws) (names ws)
+-- and where two jobs of one task never have the same deadline, no other job is that
+pub late-only : (ws : List Row)
+    → ((v : Row) → List·Memᴰ v ws → (w : Row) → List·Memᴰ w ws → v .job .task ≡ w .job .task → v .job .deadline ≡ w .job .deadline → v .job ≡ w .job)
+    → (w : Row) → NamedLate ws w → lateJob ws ≡ some (w .job)
+late-only ws ties w n = go (lateJob ws) (names ws)
   where
     go : (o : Option Job) → Named ws o → o ≡ some (w .job)
-    go none (nobody f) = true-is-not-false (sym l ∙ f w m)
+    go none (nobody f) = true-is-not-false (sym (n .is-late) ∙ f w (n .row))
     go (some j) (somebody x) =
-        let a : Ahead (x .row .job) (w .job) = rw (x .its-job) (x .ahead w m l) in
-        let b = before-false (x .row .job) (w .job) (first (x .row) (x .mem) (x .is-late)) in
+        let a : Ahead (x .row .job) (w .job) = rw (x .its-job) (x .ahead w (n .row) (n .is-late)) in
+        let b : Ahead (w .job) (x .row .job) = n .ahead (x .row) (x .mem) (x .is-late) in
         let d : x .row .job .deadline ≡ w .job .deadline = omega arith in
         let p = a .task d in
         let q = b .task (sym d) in
-        ap some (sym (x .its-job) ∙ ties (x .row) (x .mem) w m (omega arith) d)
+        ap some (sym (x .its-job) ∙ ties (x .row) (x .mem) w (n .row) (omega arith) d)
+
+-- of no row there is none
+pub late-no-row : lateJob [] ≡ none
+unfolding lateJob
+late-no-row = refl
+
+-- of one row: its job, where it finishes after its deadline
+pub late-one : (w : Row) → w .job .deadline < finish w → lateJob (w ∷ []) ≡ some (w .job)
+unfolding lateJob late
+late-one w h = rw (lt-ltb _ _ h) (sooner-none (w .job))
+
+pub late-not : (w : Row) → finish w ≤ w .job .deadline → lateJob (w ∷ []) ≡ none
+unfolding lateJob late
+late-not w h = rw (le-ltb _ _ h)
+
+-- of rows after rows: of the two late jobs the one that goes before
+pub late-append : (ws vs : List Row) → lateJob (ws ++ vs) ≡ earlier (lateJob ws) (lateJob vs)
+unfolding lateJob
+late-append [] vs = refl
+late-append (w ∷ ws) vs = go (late w) (late-append ws vs)
+  where
+    go : (b : Bool) → lateJob (ws ++ vs) ≡ earlier (lateJob ws) (lateJob vs)
+        → (if b then sooner (w .job) (lateJob (ws ++ vs)) else lateJob (ws ++ vs))
+        ≡ earlier (if b then sooner (w .job) (lateJob ws) else lateJob ws) (lateJob vs)
+    go true e = ap (sooner (w .job)) e ∙ sym (earlier-assoc (some (w .job)) (lateJob ws) (lateJob vs))
+    go false e = e

@@ -5,19 +5,25 @@ pub mod Search
 pub mod Tables
 pub mod Refused
 pub mod Calls
+pub mod Untouched
+pub mod TableSteps
 -- the dispatcher: what it picks, its runs, its rules, and that they leave one list of rows
+pub mod Order
 pub mod Taken
 pub mod Legal
 pub mod Picked
 pub mod Runs
 pub mod Dispatcher
-pub mod Determined
 pub mod LateJob
+pub mod Determined
+pub mod Choosing
+pub mod RowWords
 -- trains of jobs, and the blocker
 pub mod Counts
 pub mod Rest
 pub mod Trains
 pub mod Members
+pub mod Planned
 pub mod Blockers
 -- demand 3: the verdict's three lines, meets, misses, the least length
 pub mod Verdicts
@@ -26,6 +32,10 @@ pub mod Meets
 pub mod Late
 pub mod Misses
 pub mod Least
+-- the walk over the tasks and the two looks, as code makes them
+pub mod TasksLeft
+pub mod LongestWait
+pub mod Looks
 -- the text, read and written
 pub mod Slices
 pub mod Digits
@@ -35,5 +45,9 @@ pub mod WriteSteps
 pub mod LineTrips
 pub mod SetTrips
 pub mod Reading
+-- the report and the program's output
+pub mod Printed
+pub mod Lengths
+pub mod First
 -- the starred sets
 pub mod Stars

@@ -14,7 +14,7 @@ use Rattle.rules.specs.Choice.{if_then_else_}
 use Rattle.rules.specs.Task.{taskAt, AllSound}
 use Rattle.rules.specs.declared.Task.{Task}
 use Rattle.rules.specs.Dispatch.{Job}
-use Rattle.rules.specs.Jobs.{train, trains, countBefore, concreteTrain, planTrain, planned, concrete, namedTrain, named}
+use Rattle.rules.specs.Jobs.{OnTrain, train, trains, countBefore, concreteTrain, planTrain, planned, concrete, namedTrain, named}
 use Rattle.rules.specs.declared.Train.{Train}
 use Rattle.rules.specs.Demand.{countWithin, blocker}
 use Rattle.rules.specs.declared.Blocker.{Blocker}
@@ -53,12 +53,6 @@ pub length-train : (n q r k : ℕ) (τ : Task) → length (train n q r k τ) ≡
 unfolding train
 length-train zero q r k τ = refl
 length-train (suc n) q r k τ = let ih = length-train n (suc q) (r + τ .T) k τ in omega arith
-
--- a job of a train that begins at r: by its number q it is released at r + q × T, due D later, and runs for C
-pub record OnTrain (r : ℕ) (τ : Task) (j : Job) : Type 0 where
-  pub released : j .release ≡ r + j .number * τ .T
-  pub due : j .deadline ≡ j .release + τ .D
-  pub runs : j .run ≡ τ .C
 
 -- a job of task number k on a train that begins at r, with a number from q to q + n
 record Numbered (q n r k : ℕ) (τ : Task) (j : Job) : Type 0 where

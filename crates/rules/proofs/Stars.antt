@@ -25,6 +25,7 @@ use Rattle.rules.specs.declared.ScheduleAnswer.{ScheduleAnswer}
 use Rattle.rules.specs.declared.PatternAnswer.{PatternAnswer}
 use Rattle.rules.proofs.Booleans.{both-true, true-is-not-false}
 use Rattle.rules.proofs.Tables.{table-sound}
+use Rattle.rules.proofs.RowWords.{length-rowWords}
 use Rattle.rules.proofs.Calls.{counted, dispatch-rows, schedule-rows, pattern-rows}
 use Rattle.rules.proofs.Search.{found, none-found}
 use Rattle.rules.proofs.Least.{least-below}
@@ -127,12 +128,6 @@ module _ (ts : List Task) (sound : AllSound ts) where
 
   misses-right : (L : ℕ) (b : Blocker) → least (λ K. fails K ts) L 1 ≡ some L → b ≡ blocker L ts → L ≤ horizon → verdict ts ≡ Verdict.Misses L b
   misses-right L b e i h = misses-when ts L b .1 (first-of (λ K. fails K ts) L e h, i)
-
--- four words a row
-pub length-rowWords : (ws : List Row) → length (rowWords ws) ≡ 4 * length ws
-unfolding rowWords
-length-rowWords [] = refl
-length-rowWords (w ∷ ws) = let ih = length-rowWords ws in omega arith
 
 -- a buffer that just holds the rows is filled with them
 filled : (xs out : List ℕ) → length out ≡ length xs → xs ++ drop (length xs) out ≡ xs

@@ -1,6 +1,7 @@
 -- Lists of jobs: those of the concrete schedule and those of the named pattern, both as one train of jobs a task.
 -- Document 01, "Dispatch" (job q of a task) and "The named pattern".
-use Prim.Native.Nat.{ℕ, zero, suc, _+_, _-_, _/_}
+use mathlib.Core.Path.{_≡_}
+use Prim.Native.Nat.{ℕ, zero, suc, _+_, _-_, _*_, _/_}
 use mathlib.Core.List.{List, [], _∷_, _++_}
 use lib.Dec.{ltb, eqb}
 use Rattle.rules.specs.Choice.{if_then_else_}
@@ -16,6 +17,12 @@ unfoldable pub train : ℕ → ℕ → ℕ → ℕ → Task → List Job
 train zero q r k τ = []
 train (suc n) q r k τ =
     record { task = k; number = q; release = r; deadline = r + τ .D; run = τ .C } ∷ train n (suc q) (r + τ .T) k τ
+
+-- a job of a train from r on: job q is released at r + q × T, due D after its release, and runs for C
+pub record OnTrain (r : ℕ) (τ : Task) (j : Job) : Type 0 where
+  pub released : j .release ≡ r + j .number * τ .T
+  pub due : j .deadline ≡ j .release + τ .D
+  pub runs : j .run ≡ τ .C
 
 -- for each task in order, numbered from k on, its train
 unfoldable pub trains : (ℕ → Task → Train) → ℕ → List Task → List Job

@@ -1,4 +1,4 @@
-//! An independent implementation of the paper "Scope of work and exact rules".
+//! An independent implementation of document 01, "Scope of work and exact rules": "the paper".
 //!
 //! It is written from that paper alone and shares nothing with the proved code.
 //! Every call lends its buffers as the proved calls do: what is not written stays the same,
@@ -7,6 +7,7 @@
 pub mod call;
 pub mod definitions;
 pub mod dispatch;
+pub mod numbers;
 pub mod pattern;
 pub mod program;
 pub mod reader;

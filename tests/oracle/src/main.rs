@@ -1,20 +1,23 @@
 //! `oracle program` prints what the program must print for its standard input;
-//! `oracle call` prints the number that the C call must hand back for it.
+//! `oracle call` prints the number that the C call must hand back for it;
+//! `oracle numbers` prints the number of each answer.
 
 use std::io::{self, Read, Write};
 use std::process::ExitCode;
 
 fn main() -> ExitCode {
     let words: Vec<String> = std::env::args().skip(1).collect();
-    let answer: fn(&[u8]) -> String = match words.as_slice() {
-        [word] if word == "program" => oracle::program::output,
-        [word] if word == "call" => |text| format!("{}\n", oracle::tile_check(text)),
+    let words: Vec<&str> = words.iter().map(String::as_str).collect();
+    let done = match words.as_slice() {
+        ["program"] => answer(oracle::program::output),
+        ["call"] => answer(|text| format!("{}\n", oracle::tile_check(text))),
+        ["numbers"] => print(&oracle::numbers::table()),
         _ => {
-            eprintln!("usage: oracle program | oracle call");
+            eprintln!("usage: oracle program | oracle call | oracle numbers");
             return ExitCode::from(2);
         }
     };
-    match run(answer) {
+    match done {
         Ok(()) => ExitCode::SUCCESS,
         Err(error) => {
             eprintln!("oracle: {error}");
@@ -23,8 +26,12 @@ fn main() -> ExitCode {
     }
 }
 
-fn run(answer: fn(&[u8]) -> String) -> io::Result<()> {
+fn answer(to: fn(&[u8]) -> String) -> io::Result<()> {
     let mut input = Vec::new();
     io::stdin().lock().read_to_end(&mut input)?;
-    io::stdout().lock().write_all(answer(&input).as_bytes())
+    print(&to(&input))
+}
+
+fn print(text: &str) -> io::Result<()> {
+    io::stdout().lock().write_all(text.as_bytes())
 }

@@ -377,3 +377,10 @@ fn named_pattern_is_the_one_of_the_paper_and_is_late() {
     }
     assert!(seen.iter().all(|&count| count > 100), "{seen:?}");
 }
+
+#[test]
+fn numbers_of_the_paper() {
+    let mut given: Vec<u32> = numbers::numbers().iter().map(|&(_, number)| number).collect();
+    given.sort_unstable();
+    assert_eq!(given, [1, 2, 3, 4, 5, 6, 7, 8, 100, 101, 102]);
+}

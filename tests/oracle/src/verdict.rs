@@ -11,6 +11,16 @@ pub enum Verdict {
     TooFar,
 }
 
+impl Verdict {
+    pub fn number(self) -> u32 {
+        match self {
+            Verdict::Meets { .. } => 100,
+            Verdict::Misses { .. } => 101,
+            Verdict::TooFar => 102,
+        }
+    }
+}
+
 pub fn verdict(words: &[u32]) -> Result<Verdict, Refusal> {
     Ok(judge(&table::tasks(words)?))
 }

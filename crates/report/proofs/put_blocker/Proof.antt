@@ -1,3 +1,4 @@
+-- `report::put_blocker` meets its contract: each arm puts the line with the word of the blocker that it has found.
 use borrow.Author.Needs.{needs}
 use Rattle.report.proofs.put_blocker.Statement.{statement}
 use Rattle.report.proofs.put_blocker.Tie as tie
@@ -10,8 +11,8 @@ slice-aggregate-put-line c = search needs
 
 put-line-requires : tie.Need-put-line-requires
 put-line-requires c κs =
-    let s = c .before .before .before in
-    rw (s .blocker .given .1) at (s .before .before .before .pre)
+    let at-task = c .before .before .before in
+    rw (at-task .blocker .given .1) at (at-task .before .before .before .pre)
 
 enum-told : tie.Need-enum-told
 enum-told c = search needs
@@ -24,24 +25,24 @@ slice-aggregate-put-word-line-2 c = search needs
 
 put-word-line-requires : tie.Need-put-word-line-requires
 put-word-line-requires c κs =
-    let s = c .before .before .before in
-    rw (s .enum-told .given .1) at (s .before .before .before .pre)
+    let at-nobody = c .before .before .before in
+    rw (at-nobody .enum-told .given .1) at (at-nobody .before .before .before .pre)
 
 same-length : tie.Need-same-length
 same-length c = search needs
 
 returns : tie.Need-returns
 returns c =
-    let p = c .before .before in
-    rw (p .before .before .before .before .blocker .given .1) (p .put-line .ensures)
+    let after-put = c .before .before in
+    rw (after-put .before .before .before .before .blocker .given .1) (after-put .put-line .ensures)
 
 same-length-2 : tie.Need-same-length-2
 same-length-2 c = search needs
 
 returns-2 : tie.Need-returns-2
 returns-2 c =
-    let p = c .before .before in
-    rw (p .before .before .before .before .enum-told .given .1) (p .put-word-line .ensures)
+    let after-put = c .before .before in
+    rw (after-put .before .before .before .before .enum-told .given .1) (after-put .put-word-line .ensures)
 
 pub put-blocker-spec : {M : Type 1} → statement M
 put-blocker-spec =

@@ -1,8 +1,20 @@
+-- `report::put_misses` meets its contract: its three lines, one after the other, are the lines of the verdict.
+use Prim.Native.Nat.{_+_, _≤_}
+use mathlib.Core.List.{_++_}
+use lib.ListN.{length}
 use borrow.Author.Needs.{needs}
 use Rattle.rules.specs.Text.{bytes, digits, line}
+use Rattle.rules.specs.Report.{blockerWord}
 use Rattle.report.proofs.Parts.{first-fits, second-fits, both}
 use Rattle.report.proofs.put_misses.Statement.{statement}
 use Rattle.report.proofs.put_misses.Tie as tie
+
+-- after the word there is room for the length and the blocker
+room : (after-word : tie.After-put-word-line)
+    → after-word .put-word-line .result + length (line (bytes "length=") (digits (after-word .before .before .before .before .before .args .least)) ++ line (bytes "blocker=") (blockerWord (after-word .before .before .before .before .before .args .blocker))) ≤ length (after-word .put-word-line .last .0)
+room after-word =
+    let at-start = after-word .before .before .before .before .before in
+    second-fits (at-start .args .out .now) (at-start .args .at) _ _ (at-start .pre) (after-word .put-word-line .ensures) (after-word .put-word-line .kept .0)
 
 slice-aggregate-put-word-line : tie.Need-slice-aggregate-put-word-line
 slice-aggregate-put-word-line c = search needs
@@ -12,38 +24,34 @@ slice-aggregate-put-word-line-2 c = search needs
 
 put-word-line-requires : tie.Need-put-word-line-requires
 put-word-line-requires c κs =
-    let s = c .before .before .before .before in
-    first-fits (s .args .out .now) (s .args .at) (line (bytes "verdict=") (bytes "misses")) _ (s .pre)
+    let at-start = c .before .before .before .before in
+    first-fits (at-start .args .out .now) (at-start .args .at) (line (bytes "verdict=") (bytes "misses")) _ (at-start .pre)
 
 slice-aggregate-put-line : tie.Need-slice-aggregate-put-line
 slice-aggregate-put-line c = search needs
 
 put-line-requires : tie.Need-put-line-requires
 put-line-requires c κs =
-    let p = c .before .before .before .before in
-    let s = p .before .before .before .before .before in
-    let f = second-fits (s .args .out .now) (s .args .at) _ _ (s .pre) (p .put-word-line .ensures) (p .put-word-line .kept .0) in
-    first-fits (p .put-word-line .last .0) (p .put-word-line .result) (line (bytes "length=") (digits (s .args .least))) _ f
+    let after-word = c .before .before .before .before in
+    first-fits (after-word .put-word-line .last .0) (after-word .put-word-line .result) _ _ (room after-word)
 
 put-blocker-requires : tie.Need-put-blocker-requires
 put-blocker-requires c κs =
-    let q = c .before .before .before in
-    let p = q .before .before .before .before .before in
-    let s = p .before .before .before .before .before in
-    let f = second-fits (s .args .out .now) (s .args .at) _ _ (s .pre) (p .put-word-line .ensures) (p .put-word-line .kept .0) in
-    second-fits (p .put-word-line .last .0) (p .put-word-line .result) _ _ f (q .put-line .ensures) (q .put-line .kept .0)
+    let after-length = c .before .before .before in
+    let after-word = after-length .before .before .before .before .before in
+    second-fits (after-word .put-word-line .last .0) (after-word .put-word-line .result) _ _ (room after-word) (after-length .put-line .ensures) (after-length .put-line .kept .0)
 
 same-length : tie.Need-same-length
 same-length c = search needs
 
 returns : tie.Need-returns
 returns c =
-    let b = c .before .before in
-    let q = b .before .before .before .before in
-    let p = q .before .before .before .before .before in
-    let s = p .before .before .before .before .before in
-    let f = second-fits (s .args .out .now) (s .args .at) _ _ (s .pre) (p .put-word-line .ensures) (p .put-word-line .kept .0) in
-    both _ _ _ _ (s .pre) (p .put-word-line .ensures) (both _ _ _ _ f (q .put-line .ensures) (b .put-blocker .ensures))
+    let after-blocker = c .before .before in
+    let after-length = after-blocker .before .before .before .before in
+    let after-word = after-length .before .before .before .before .before in
+    let at-start = after-word .before .before .before .before .before in
+    both _ _ _ _ (at-start .pre) (after-word .put-word-line .ensures)
+    (both _ _ _ _ (room after-word) (after-length .put-line .ensures) (after-blocker .put-blocker .ensures))
 
 pub put-misses-spec : {M : Type 1} → statement M
 put-misses-spec =

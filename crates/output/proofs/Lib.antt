@@ -1,0 +1,2 @@
+-- Laws of the run over the sets.
+mod Turns

@@ -1,0 +1,2 @@
+-- What the program's output promises.
+pub mod Output

@@ -13,19 +13,19 @@ use Rattle.lines.proofs.more_digits.Statement.{statement}
 use Rattle.lines.proofs.more_digits.Tie as tie
 
 abbrev Inv-loop : tie.InvT-loop
-Inv-loop s first rest₀ v₀ t₀ left₀ rest v t left = (left ≤ 4) × ((v < 10 ^ (5 - left)) × (moreDigits left v t ≡ moreDigits 4 first s))
+Inv-loop s first rest₀ v₀ t₀ left₀ rest v t left = (moreDigits left v t ≡ moreDigits 4 first s) × ((left ≤ 4) × (v < 10 ^ (5 - left)))
 
 abbrev μ-loop : tie.MeasureT-loop
 μ-loop s first rest₀ v₀ t₀ left₀ rest v t left = left
 
 loop-holds : tie.Need-loop-holds Inv-loop μ-loop
-loop-holds c = (omega arith, (omega arith, refl))
+loop-holds c = (refl, (omega arith, omega arith))
 
 -- no byte is left
 returns : tie.Need-returns Inv-loop μ-loop
 returns c =
     let at-loop = c .before .before in
-    sym (more-none _ _ (at-loop .loop .left) (c .if1 .taken)) ∙ at-loop .loop .inv .1 .1
+    sym (more-none _ _ (at-loop .loop .left) (c .if1 .taken)) ∙ at-loop .loop .inv .0
 
 shared-slice-read-is-digit : tie.Need-shared-slice-read-is-digit Inv-loop μ-loop
 shared-slice-read-is-digit c = search needs
@@ -38,12 +38,12 @@ returns-2 : tie.Need-returns-2 Inv-loop μ-loop
 returns-2 c =
     let at-loop = c .before .before .before .before .before in
     let asked = c .before .is-digit in
-    sym (more-other _ (at-loop .loop .t .now) (omega arith) (at-loop .loop .left) (sym (asked .ensures) ∙ not-true (asked .result) (c .if2 .taken))) ∙ at-loop .loop .inv .1 .1
+    sym (more-other _ (at-loop .loop .t .now) (omega arith) (at-loop .loop .left) (sym (asked .ensures) ∙ not-true (asked .result) (c .if2 .taken))) ∙ at-loop .loop .inv .0
 
 mul-v : tie.Need-mul-v Inv-loop μ-loop
 mul-v c =
     let at-loop = c .before .before .before .before .before in
-    omega (arith, room (at-loop .loop .left) (at-loop .loop .v) (at-loop .loop .inv .0) (at-loop .loop .inv .1 .0))
+    omega (arith, room (at-loop .loop .left) (at-loop .loop .v) (at-loop .loop .inv .1 .0) (at-loop .loop .inv .1 .1))
 
 shared-slice-read-digit-value : tie.Need-shared-slice-read-digit-value Inv-loop μ-loop
 shared-slice-read-digit-value c = search needs
@@ -56,7 +56,7 @@ digit-value-requires c κs =
 add-v : tie.Need-add-v Inv-loop μ-loop
 add-v c =
     let at-loop = c .before .before .before .before .before .before .before in
-    omega (arith, room (at-loop .loop .left) (at-loop .loop .v) (at-loop .loop .inv .0) (at-loop .loop .inv .1 .0))
+    omega (arith, room (at-loop .loop .left) (at-loop .loop .v) (at-loop .loop .inv .1 .0) (at-loop .loop .inv .1 .1))
 
 sub-t : tie.Need-sub-t Inv-loop μ-loop
 sub-t c = search needs
@@ -80,10 +80,10 @@ loop-again c =
     let left = at-loop .loop .t .now in
     let asked = after-test .before .is-digit in
     let value = c .before .digit-value .ensures in (
-      omega arith,
+      rw (part 1 left, value .0) (sym (more-step (at-loop .loop .v) left (omega arith) (at-loop .loop .left) (omega arith) (sym (asked .ensures) ∙ not-false (asked .result) (after-test .if2 .left))) ∙ at-loop .loop .inv .0),
       (
-        room-step (at-loop .loop .left) (at-loop .loop .v) _ (omega arith) (at-loop .loop .inv .0) (value .1) (at-loop .loop .inv .1 .0),
-        rw (part 1 left, value .0) (sym (more-step (at-loop .loop .v) left (omega arith) (at-loop .loop .left) (omega arith) (sym (asked .ensures) ∙ not-false (asked .result) (after-test .if2 .left))) ∙ at-loop .loop .inv .1 .1),
+        omega arith,
+        room-step (at-loop .loop .left) (at-loop .loop .v) _ (omega arith) (at-loop .loop .inv .1 .0) (value .1) (at-loop .loop .inv .1 .1),
       ),
     )
 
@@ -92,7 +92,7 @@ returns-3 : tie.Need-returns-3 Inv-loop μ-loop
 returns-3 c =
     let at-loop = c .before in
     let e : at-loop .loop .left ≡ 0 = omega arith in
-    sym (more-end _ _ (at-loop .loop .left) e) ∙ at-loop .loop .inv .1 .1
+    sym (more-end _ _ (at-loop .loop .left) e) ∙ at-loop .loop .inv .0
 
 pub more-digits-spec : {M : Type 1} → statement M
 more-digits-spec =

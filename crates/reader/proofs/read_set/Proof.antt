@@ -54,11 +54,11 @@ returns c =
 
 -- no task
 returns-2 : tie.Need-returns-2
-returns-2 c = calls.read-stops _ _ 1 (no-task _ _ _ (first-line (c .before)) (c .if1 .taken))
+returns-2 c = calls.read-stops _ _ 1 (no-task _ _ _ (first-line (c .before)) (omega arith))
 
 -- too many
 returns-3 : tie.Need-returns-3
-returns-3 c = calls.read-stops _ _ 1 (too-many _ _ _ (first-line (c .before .before)) (c .before .if1 .left) (c .if2 .taken))
+returns-3 c = calls.read-stops _ _ 1 (too-many _ _ _ (first-line (c .before .before)) (c .before .if1 .left) (omega arith))
 
 cast-m : tie.Need-cast-m
 cast-m c = search needs

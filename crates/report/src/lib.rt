@@ -118,8 +118,8 @@ fn judge_first(text: &[u8]) -> First
     let mut code: u32 = 0;
     let mut number: u32 = 0;
     let rest = reader::read(text, &mut table, &mut code, &mut number);
-    let read = reader::read_answer(code, number);
-    match read {
+    let answer = reader::read_answer(code, number);
+    match answer {
         ReadAnswer::Set(n) => First {
             answer: verdict::verdict(&table[..4 * n as usize]),
             left: rest.len(),

@@ -1,3 +1,4 @@
+-- `told::put` meets its contract: after i turns the first i values stand at the start of out.
 use mathlib.Core.Path.{_≡_, refl, _∙_}
 use Prim.Native.Nat.{_-_, _≤_}
 use native.Mathlib.Omega.{arith}
@@ -5,17 +6,15 @@ use mathlib.Core.List.{_++_}
 use lib.ListN.{length, take, drop, length-set}
 use lib.Seq.{take-length}
 use borrow.Author.Needs.{needs}
-use Rattle.probe.proofs.Telling.{copied}
-use Rattle.probe.proofs.tell.Statement.{statement}
-use Rattle.probe.proofs.tell.Tie as tie
-use Rattle.probe.proofs.tell.Reads as reads
-use Rattle.probe.proofs.tell.Lts as lts
+use Rattle.rules.proofs.Slices.{copied}
+use Rattle.told.proofs.put.Statement.{statement}
+use Rattle.told.proofs.put.Tie as tie
 
 abbrev Inv-loop : tie.InvT-loop
-Inv-loop out₀ number values i₀ out i = (i ≤ length values) × ((out ≡ take i values ++ drop i out₀) × (length out ≡ length out₀))
+Inv-loop out₀ values i₀ out i = (i ≤ length values) × ((out ≡ take i values ++ drop i out₀) × (length out ≡ length out₀))
 
 abbrev μ-loop : tie.MeasureT-loop
-μ-loop out₀ number values i₀ out i = length values - i
+μ-loop out₀ values i₀ out i = length values - i
 
 loop-holds : tie.Need-loop-holds Inv-loop μ-loop
 loop-holds c = (omega arith, (refl, refl))
@@ -40,23 +39,22 @@ loop-less c = search needs
 
 loop-again : tie.Need-loop-again Inv-loop μ-loop
 loop-again c =
-    let w = c .before .before in
-    let a = w .before .args in
-    let e = copied (a .out .now) (a .values .now) (w .loop .i) (omega arith) (omega arith) in
-    (omega arith, (rw (w .loop .inv .1 .0) e, simp length-set (w .loop .inv .1 .1)))
+    let at-loop = c .before .before in
+    let a = at-loop .before .args in
+    let e = copied (a .out .now) (a .values .now) (at-loop .loop .i) (omega arith) (omega arith) in
+    (omega arith, (rw (at-loop .loop .inv .1 .0) e, simp length-set (at-loop .loop .inv .1 .1)))
 
 same-length : tie.Need-same-length Inv-loop μ-loop
 same-length c = search needs
 
 returns : tie.Need-returns Inv-loop μ-loop
 returns c =
-    let w = c .before in
-    let a = w .before .args in
-    let e : w .loop .i ≡ length (a .values .now) = omega arith in
-    record { says = refl; leaves = w .loop .inv .1 .0 ∙ rw (e, take-length) }
+    let at-loop = c .before in
+    let e : at-loop .loop .i ≡ length (at-loop .before .args .values .now) = omega arith in
+    at-loop .loop .inv .1 .0 ∙ rw (e, take-length)
 
-pub tell-spec : {M : Type 1} → statement M
-tell-spec =
+pub put-spec : {M : Type 1} → statement M
+put-spec =
     tie.close
     (tie.spec
     Inv-loop

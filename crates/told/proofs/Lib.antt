@@ -1,2 +1,2 @@
 -- Laws of what is told.
-pub mod Telling
+mod Sayings

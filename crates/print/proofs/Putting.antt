@@ -19,6 +19,10 @@ puts-one old at vs m n e f p q = (p .says ∙ sym (q .says), p .leaves ∙ sym (
 pub put-nil : (l : List ℕ) (at : ℕ) → put l at [] ≡ l
 put-nil l at = let e : at + 0 ≡ at = omega arith in ap (λ (k : ℕ). take at l ++ drop k l) e ∙ take-append-drop at l
 
+-- at the start
+pub put-start : (l vs : List ℕ) → put l 0 vs ≡ vs ++ drop (length vs) l
+put-start l vs = let e : 0 + length vs ≡ length vs = omega arith in ap (λ (k : ℕ). vs ++ drop k l) e
+
 -- no digit
 pub put-none : (l : List ℕ) (at i v : ℕ) → i ≡ 0 → put l at (lasts i v) ≡ l
 put-none l at i v e = rw (e, lasts-none v) (put-nil l at)

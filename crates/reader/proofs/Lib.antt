@@ -1,6 +1,2 @@
--- Laws of reader and writer: Callers has what the crates above cite, Promises proves the page of specs/.
-mod Scanning
-mod Sets
-mod Writing
-pub mod Callers
-pub mod Promises
+-- Laws of the reader: its two numbers stand for its answer, and its promise leaves one outcome.
+pub mod Numbers

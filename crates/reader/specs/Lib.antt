@@ -1,3 +1,2 @@
--- What reader and writer promise, beyond the records of rules.
+-- What the reader promises, beyond the records of rules.
 pub mod Reader
-pub mod Promises

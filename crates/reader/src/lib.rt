@@ -1,20 +1,23 @@
-// A set's text, read and written.
+// The reader: the first set of a text.
 ghost use mathlib.Core.Path.{_≡_};
-ghost use Prim.Native.Nat.{_+_, _≤_, _<_};
+ghost use Prim.Native.Nat.{_≤_, _<_};
 ghost use mathlib.Core.List.{_++_};
 ghost use lib.ListN.{length, take, drop};
-ghost use Rattle.rules.specs.Text.{keyOf, readLine, readLines, digits, line, writeSet};
-ghost use Rattle.rules.specs.Calls.{Reads, Writes};
-ghost use Rattle.lines.specs.Line.{Finds, Puts};
-ghost use Rattle.text.specs.Reader.{scanned, codeOf, numberIn, answerOf, Returns};
+ghost use Rattle.rules.specs.Numbers.{tableMost};
+ghost use Rattle.rules.specs.Text.{keyOf, readLine, readLines};
+ghost use Rattle.rules.specs.Told.{numberTold, valueTold, readTold};
+ghost use Rattle.rules.specs.Calls.{Reads};
+ghost use Rattle.lines.specs.Line.{Finds};
+ghost use Rattle.reader.specs.Reader.{scanned, readAnswerOf, Returns};
 use lines::Number;
 use rules::ReadAnswer;
 use rules::Refusal;
-use rules::TableAnswer;
-use rules::WriteAnswer;
+use rules::TASK_KEYS;
+use table::TABLE_MOST;
+use table::TASK_MOST;
 
 // Whether all lines were as due, or the number of the first that was not.
-pub enum Scan {
+enum Scan {
     Whole,
     Stop(u32),
 }
@@ -24,21 +27,12 @@ fn task_line<'a>(s: &'a [u8], which: usize, rest: &mut &'a [u8]) -> Number
     requires { ⌜ which < 4 ⌝ }
     ensures { λ r. ⌜ Finds (readLine (keyOf which) (now (s .entry))) (now (now (rest .entry))) r (now (now (rest .exit))) ⌝ }
 {
-    if which == 0 {
-        return lines::read_line(s, b"c=", rest);
-    }
-    if which == 1 {
-        return lines::read_line(s, b"d=", rest);
-    }
-    if which == 2 {
-        return lines::read_line(s, b"t=", rest);
-    }
-    lines::read_line(s, b"r=", rest)
+    lines::read_line(s, &TASK_KEYS[2 * which..2 * which + 2], rest)
 }
 
 // m lines of tasks: their numbers go to the start of words, what is left to rest.
 fn task_lines<'a>(s: &'a [u8], m: usize, words: &mut [u32], rest: &mut &'a [u8]) -> Scan
-    requires { ⌜ (m ≤ length (now words)) × (m ≤ 256) ⌝ }
+    requires { ⌜ (m ≤ length (now words)) × (m ≤ tableMost) ⌝ }
     ensures { λ r. ⌜ scanned r (take m (now (words .exit))) (now (now (rest .exit))) ≡ readLines m 0 (now (s .entry)) ⌝ }
 {
     let mut t = s;
@@ -82,11 +76,11 @@ pub fn read_set<'a>(text: &'a [u8], table: &mut [u32], rest: &mut &'a [u8]) -> R
     if n < 1 {
         return ReadAnswer::Refused(Refusal::BadLine(1));
     }
-    if n > 64 {
+    if n > TASK_MOST {
         return ReadAnswer::Refused(Refusal::BadLine(1));
     }
     let m = 4 * n as usize;
-    let mut words = [0u32; 256];
+    let mut words = [0u32; TABLE_MOST];
     let mut b = a;
     let scan = task_lines(a, m, &mut words, &mut b);
     if let Scan::Stop(l) = scan {
@@ -102,7 +96,7 @@ pub fn read_set<'a>(text: &'a [u8], table: &mut [u32], rest: &mut &'a [u8]) -> R
 
 // The first number of an answer: 0, or the refusal's.
 fn code_of(answer: ReadAnswer) -> u32
-    ensures { λ r. ⌜ r ≡ codeOf answer ⌝ }
+    ensures { λ r. ⌜ r ≡ numberTold (readTold answer) ⌝ }
 {
     match answer {
         ReadAnswer::Set(_) => 0,
@@ -112,17 +106,20 @@ fn code_of(answer: ReadAnswer) -> u32
 
 // The second: the task count, or what the refusal carries.
 fn number_in(answer: ReadAnswer) -> u32
-    ensures { λ r. ⌜ r ≡ numberIn answer ⌝ }
+    ensures { λ r. ⌜ r ≡ valueTold (readTold answer) ⌝ }
 {
     match answer {
         ReadAnswer::Set(n) => n,
-        ReadAnswer::Refused(r) => numbers::refusal_value(r),
+        ReadAnswer::Refused(r) => {
+            let carried = numbers::refusal_carries(r);
+            numbers::carried_value(carried)
+        }
     }
 }
 
 // The answer that the two numbers of a reader stand for.
 pub fn read_answer(code: u32, number: u32) -> ReadAnswer
-    ensures { λ r. ⌜ r ≡ answerOf code number ⌝ }
+    ensures { λ r. ⌜ r ≡ readAnswerOf code number ⌝ }
 {
     if code == 0 {
         return ReadAnswer::Set(number);
@@ -143,64 +140,4 @@ pub fn read<'a>(text: &'a [u8], table: &mut [u32], code: &mut u32, number: &mut 
     *code = code_of(answer);
     *number = number_in(answer);
     rest
-}
-
-// One of a task's four lines is put at a place.
-fn put_task_line(out: &mut [u8], at: usize, which: usize, n: u32) -> usize
-    requires { ⌜ (which < 4) × (at + length (line (keyOf which) (digits n)) ≤ length (now out)) ⌝ }
-    ensures { λ r. ⌜ Puts (now (out .entry)) at (line (keyOf which) (digits n)) r (now (out .exit)) ⌝ }
-{
-    if which == 0 {
-        return lines::put_line(out, at, b"c=", n);
-    }
-    if which == 1 {
-        return lines::put_line(out, at, b"d=", n);
-    }
-    if which == 2 {
-        return lines::put_line(out, at, b"t=", n);
-    }
-    lines::put_line(out, at, b"r=", n)
-}
-
-// How long the text of a table is.
-fn text_length(table: &[u32]) -> usize
-    requires { ⌜ length (now table) ≤ 256 ⌝ }
-    ensures { λ r. ⌜ (r ≡ length (writeSet (now (table .entry)))) × (r < 100000) ⌝ }
-{
-    let mut total = lines::width((table.len() / 4) as u32) + 7;
-    let mut k: usize = 0;
-    while k < table.len() {
-        total += lines::width(table[k]) + 3;
-        k += 1;
-    }
-    total
-}
-
-// The text of a table is put at the start of out.
-fn put_set(table: &[u32], out: &mut [u8])
-    requires { ⌜ (length (now table) ≤ 256) × (length (writeSet (now table)) ≤ length (now out)) ⌝ }
-    ensures { λ _. ⌜ now (out .exit) ≡ writeSet (now (table .entry)) ++ drop (length (writeSet (now (table .entry)))) (now (out .entry)) ⌝ }
-{
-    let mut at = lines::put_line(out, 0, b"tasks=", (table.len() / 4) as u32);
-    let mut k: usize = 0;
-    while k < table.len() {
-        at = put_task_line(out, at, k % 4, table[k]);
-        k += 1;
-    }
-}
-
-// THE WRITER. The text of a table goes to the start of out; the answer is its length.
-pub fn write(table: &[u32], out: &mut [u8]) -> WriteAnswer
-    ensures { λ r. ⌜ Writes (now (table .entry)) (now (out .entry)) r (now (out .exit)) ⌝ }
-{
-    let checked = table::check_table(table);
-    if let TableAnswer::Refused(r) = checked {
-        return WriteAnswer::Refused(r);
-    }
-    let total = text_length(table);
-    if out.len() < total {
-        return WriteAnswer::Refused(Refusal::TooShort);
-    }
-    put_set(table, out);
-    WriteAnswer::Written(total as u32)
 }

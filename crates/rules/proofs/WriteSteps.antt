@@ -6,7 +6,7 @@ use native.Mathlib.Omega.{arith}
 use mathlib.Core.List.{List, [], _∷_, _++_}
 use lib.ListN.{length, take, drop, getD, length-append, drop-of-length-le}
 use lib.Seq.{drop-cons}
-use Rattle.rules.specs.Text.{keyOf, tasksKey, digits, line, writeLines, writeSet}
+use Rattle.rules.specs.Text.{bytes, keyOf, tasksKey, digits, line, writeLines, writeSet}
 
 -- a line
 module _ (key value : List ℕ) where
@@ -24,6 +24,14 @@ key-length zero = refl
 key-length (suc zero) = refl
 key-length (suc (suc zero)) = refl
 key-length (suc (suc (suc k))) = refl
+
+-- and stands in the table of keys of rules/src at twice its place
+pub key-part : (k : ℕ) → k < 4 → take (2 * k + 2 - 2 * k) (drop (2 * k) (bytes "c=d=t=r=")) ≡ keyOf k
+key-part zero h = refl
+key-part (suc zero) h = refl
+key-part (suc (suc zero)) h = refl
+key-part (suc (suc (suc zero))) h = refl
+key-part (suc (suc (suc (suc k)))) h = absurd (omega arith)
 
 -- a set: its first line, then the others
 module _ (ws : List ℕ) where

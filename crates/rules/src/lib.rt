@@ -1,5 +1,8 @@
 // What the calls take and answer. Document 01 as definitions over these types stands in specs/.
 
+// The keys of a task's four lines, one after another, two bytes each.
+pub const TASK_KEYS: [u8; 8] = *b"c=d=t=r=";
+
 // A task: execution, relative deadline, least period, first release.
 pub struct Task {
     pub C: u32,

@@ -8,7 +8,9 @@ use rules::Refusal;
 use rules::TableAnswer;
 use rules::Task;
 
-// The most words of a table, and the greatest value of a word.
+// The most tasks, the most words of a table, and the greatest value of a word.
+pub const TASK_MOST: u32 = 64;
+
 pub const TABLE_MOST: usize = 256;
 
 pub const WORD_MOST: u32 = 65535;

@@ -31,7 +31,7 @@ loop-again : tie.Need-loop-again Inv-loop μ-loop
 loop-again c =
     let v = c .before .loop .v in
     let small : v < 10 ^ 10 = omega arith in
-    (omega arith, omega (arith, width-more v (c .loop-test .taken) small))
+    (omega arith, omega (arith, width-more v (omega arith) small))
 
 returns : tie.Need-returns Inv-loop μ-loop
 returns c =

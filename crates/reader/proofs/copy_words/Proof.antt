@@ -1,12 +1,14 @@
+-- `reader::copy_words` meets its contract: after i turns the first i words of `from` stand before what `to` held from there on; each turn copies
+-- one more.
 use mathlib.Core.Path.{_≡_, refl, ap, _∙_}
 use Prim.Native.Nat.{ℕ, _-_, _≤_}
 use native.Mathlib.Omega.{arith}
 use mathlib.Core.List.{_++_}
 use lib.ListN.{length, take, drop, length-set}
-use Rattle.text.proofs.Scanning.{copy-step}
+use Rattle.rules.proofs.Slices.{copied}
 use borrow.Author.Needs.{needs}
-use Rattle.text.proofs.copy_words.Statement.{statement}
-use Rattle.text.proofs.copy_words.Tie as tie
+use Rattle.reader.proofs.copy_words.Statement.{statement}
+use Rattle.reader.proofs.copy_words.Tie as tie
 
 abbrev Inv-loop : tie.InvT-loop
 Inv-loop from n to₀ i₀ to i = (i ≤ n) × ((to ≡ take i from ++ drop i to₀) × (length to ≡ length to₀))
@@ -37,12 +39,12 @@ loop-less c = search needs
 
 loop-again : tie.Need-loop-again Inv-loop μ-loop
 loop-again c =
-    let w = c .before .before in
-    let a = w .before .args in (
+    let at-loop = c .before .before in
+    let a = at-loop .before .args in (
       omega arith,
       (
-        copy-step (a .from .now) (a .to .now) _ _ (omega arith) (omega arith) (w .loop .inv .1 .0),
-        simp length-set (w .loop .inv .1 .1),
+        rw (at-loop .loop .inv .1 .0) (copied (a .to .now) (a .from .now) (at-loop .loop .i) (omega arith) (omega arith)),
+        simp length-set (at-loop .loop .inv .1 .1),
       ),
     )
 
@@ -51,10 +53,10 @@ same-length c = search needs
 
 returns : tie.Need-returns Inv-loop μ-loop
 returns c =
-    let w = c .before in
-    let a = w .before .args in
-    let e : w .loop .i ≡ a .n = omega arith in
-    w .loop .inv .1 .0 ∙ ap (λ (k : ℕ). take k (a .from .now) ++ drop k (a .to .now)) e
+    let at-loop = c .before in
+    let a = at-loop .before .args in
+    let e : at-loop .loop .i ≡ a .n = omega arith in
+    at-loop .loop .inv .1 .0 ∙ ap (λ (k : ℕ). take k (a .from .now) ++ drop k (a .to .now)) e
 
 pub copy-words-spec : {M : Type 1} → statement M
 copy-words-spec =

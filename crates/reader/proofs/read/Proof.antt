@@ -1,9 +1,12 @@
+-- `reader::read` meets its contract: the set is read by `read_set`, and the two numbers that its answer is told by stand for it again.
 use mathlib.Core.Path.{ap, ap₂, _∙_}
-use Rattle.text.specs.Reader.{codeOf, numberIn, answerOf}
-use Rattle.text.proofs.Sets.{numbers-back}
+use Rattle.rules.specs.Told.{numberTold, valueTold, readTold}
+use Rattle.rules.specs.declared.ReadAnswer.{ReadAnswer}
+use Rattle.reader.specs.Reader.{readAnswerOf}
+use Rattle.reader.proofs.Numbers.{numbers-back}
 use borrow.Author.Needs.{needs}
-use Rattle.text.proofs.read.Statement.{statement}
-use Rattle.text.proofs.read.Tie as tie
+use Rattle.reader.proofs.read.Statement.{statement}
+use Rattle.reader.proofs.read.Tie as tie
 
 read-set-requires : tie.Need-read-set-requires
 read-set-requires c κs = search needs
@@ -19,14 +22,13 @@ same-length c = search needs
 
 returns : tie.Need-returns
 returns c =
-    let f = c .before .before .before .before .read-set in
-    let e = f .ensures .says in
-    let k = c .before .code-of .ensures ∙ ap codeOf e in
-    let n = c .number-in .ensures ∙ ap numberIn e in
+    let outcome = c .before .before .before .before .read-set .ensures in
+    let code = c .before .code-of .ensures ∙ ap (λ (a : ReadAnswer). numberTold (readTold a)) (outcome .says) in
+    let value = c .number-in .ensures ∙ ap (λ (a : ReadAnswer). valueTold (readTold a)) (outcome .says) in
     record {
-      reads = record { says = ap₂ answerOf k n ∙ numbers-back _ _; hands-back = f .ensures .hands-back; leaves = f .ensures .leaves };
-      code-is = k;
-      number-is = n;
+      reads = record { says = ap₂ readAnswerOf code value ∙ numbers-back _ _; hands-back = outcome .hands-back; leaves = outcome .leaves };
+      code-is = code;
+      number-is = value;
     }
 
 pub read-spec : {M : Type 1} → statement M

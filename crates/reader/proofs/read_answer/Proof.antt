@@ -1,18 +1,19 @@
+-- `reader::read_answer` meets its contract: 0, 6 or another number, and `readAnswerOf` has the same tests in the same order.
 use borrow.Author.Tests.{eq-eqb, ne-eqb}
-use Rattle.text.specs.Reader.{answerOf}
-use Rattle.text.proofs.read_answer.Statement.{statement}
-use Rattle.text.proofs.read_answer.Tie as tie
+use Rattle.reader.specs.Reader.{readAnswerOf}
+use Rattle.reader.proofs.read_answer.Statement.{statement}
+use Rattle.reader.proofs.read_answer.Tie as tie
 
 returns : tie.Need-returns
-unfolding answerOf
+unfolding readAnswerOf
 returns c = simp (eq-eqb _ 0 (c .if1 .taken))
 
 returns-2 : tie.Need-returns-2
-unfolding answerOf
+unfolding readAnswerOf
 returns-2 c = simp (ne-eqb _ 0 (c .before .if1 .left), eq-eqb _ 6 (c .if2 .taken))
 
 returns-3 : tie.Need-returns-3
-unfolding answerOf
+unfolding readAnswerOf
 returns-3 c = simp (ne-eqb _ 0 (c .before .if1 .left), ne-eqb _ 6 (c .if2 .left))
 
 pub read-answer-spec : {M : Type 1} → statement M

@@ -1,70 +1,44 @@
-use mathlib.Core.Path.{_≡_}
-use native.Mathlib.Omega.{arith}
+-- `reader::task_line` meets its contract: the line is read with the part of the table of keys at twice the place, and that part is the key.
+use Rattle.rules.proofs.WriteSteps.{key-part}
 use borrow.Author.Needs.{needs}
-use Rattle.text.proofs.task_line.Statement.{statement}
-use Rattle.text.proofs.task_line.Tie as tie
+use Rattle.reader.proofs.task_line.Statement.{statement}
+use Rattle.reader.proofs.task_line.Tie as tie
 
-slice-aggregate-read-line : tie.Need-slice-aggregate-read-line
-slice-aggregate-read-line c = search needs
+mul-read-line : tie.Need-mul-read-line
+mul-read-line c = search needs
+
+mul-read-line-2 : tie.Need-mul-read-line-2
+mul-read-line-2 c = search needs
+
+add-read-line : tie.Need-add-read-line
+add-read-line c = search needs
+
+sub-read-line : tie.Need-sub-read-line
+sub-read-line c = search needs
+
+part-read-line-start : tie.Need-part-read-line-start
+part-read-line-start c = search needs
+
+part-read-line-end : tie.Need-part-read-line-end
+part-read-line-end c = search needs
 
 read-line-requires : tie.Need-read-line-requires
 read-line-requires c κs = search needs
 
 returns : tie.Need-returns
 returns c =
-    let a = c .before .before .before .before .before in
-    let e : a .args .which ≡ 0 = omega arith in
-    rw e (c .read-line .ensures)
-
-slice-aggregate-read-line-2 : tie.Need-slice-aggregate-read-line-2
-slice-aggregate-read-line-2 c = search needs
-
-read-line-requires-2 : tie.Need-read-line-requires-2
-read-line-requires-2 c κs = search needs
-
-returns-2 : tie.Need-returns-2
-returns-2 c =
-    let a = c .before .before .before .before .before .before in
-    let e : a .args .which ≡ 1 = omega arith in
-    rw e (c .read-line2 .ensures)
-
-slice-aggregate-read-line-3 : tie.Need-slice-aggregate-read-line-3
-slice-aggregate-read-line-3 c = search needs
-
-read-line-requires-3 : tie.Need-read-line-requires-3
-read-line-requires-3 c κs = search needs
-
-returns-3 : tie.Need-returns-3
-returns-3 c =
-    let a = c .before .before .before .before .before .before .before in
-    let e : a .args .which ≡ 2 = omega arith in
-    rw e (c .read-line3 .ensures)
-
-slice-aggregate-read-line-4 : tie.Need-slice-aggregate-read-line-4
-slice-aggregate-read-line-4 c = search needs
-
-read-line-requires-4 : tie.Need-read-line-requires-4
-read-line-requires-4 c κs = search needs
-
-returns-4 : tie.Need-returns-4
-returns-4 c =
-    let a = c .before .before .before .before .before .before .before in
-    let e : a .args .which ≡ 3 = omega arith in
-    rw e (c .read-line4 .ensures)
+    let at-entry = c .before .before .before .before .before in
+    rw (← key-part (at-entry .args .which) (at-entry .pre)) (c .read-line .ensures)
 
 pub task-line-spec : {M : Type 1} → statement M
 task-line-spec =
     tie.close
     (tie.spec
-    slice-aggregate-read-line
+    mul-read-line
+    mul-read-line-2
+    add-read-line
+    sub-read-line
+    part-read-line-start
+    part-read-line-end
     read-line-requires
-    returns
-    slice-aggregate-read-line-2
-    read-line-requires-2
-    returns-2
-    slice-aggregate-read-line-3
-    read-line-requires-3
-    returns-3
-    slice-aggregate-read-line-4
-    read-line-requires-4
-    returns-4)
+    returns)

@@ -1,3 +1,5 @@
+-- `reader::task_lines` meets its contract: the words stored, put ahead of what reading the lines that are left gives, are at each turn what
+-- reading all of them gives.
 use mathlib.Core.Path.{_≡_, refl, sym, ap, _∙_}
 use Prim.Native.Nat.{ℕ, _-_, _≤_}
 use native.Mathlib.Omega.{arith}
@@ -5,10 +7,10 @@ use lib.ListN.{length, take, length-set}
 use Rattle.rules.specs.Text.{readLines}
 use Rattle.lines.specs.Line.{seen}
 use Rattle.lines.specs.declared.Number.{Number}
-use Rattle.text.proofs.Scanning.{aheads, aheads-none, lines-done, lines-more, lines-wrong}
+use Rattle.rules.proofs.ReadSets.{aheads, aheads-none, lines-done, lines-more, lines-wrong}
 use borrow.Author.Needs.{needs}
-use Rattle.text.proofs.task_lines.Statement.{statement}
-use Rattle.text.proofs.task_lines.Tie as tie
+use Rattle.reader.proofs.task_lines.Statement.{statement}
+use Rattle.reader.proofs.task_lines.Tie as tie
 
 abbrev Inv-loop : tie.InvT-loop
 Inv-loop s m words₀ rest t₀ k₀ words t k = (k ≤ m) × ((length words ≡ length words₀) × (aheads (take k words) (readLines (m - k) k t) ≡ readLines m 0 s))
@@ -40,12 +42,13 @@ cast-t14 c = search needs
 same-length : tie.Need-same-length Inv-loop μ-loop
 same-length c = search needs
 
+-- a line is not as due
 returns : tie.Need-returns Inv-loop μ-loop
 returns c =
-    let w = c .before .before .before .before .before in
-    let f = c .before .before .task-line in
-    sym (lines-wrong _ _ (w .loop .words) (w .loop .t .now) (omega arith) (sym (f .ensures .says) ∙ ap (λ (n : Number). seen n (f .last .1 .1 .0 .now)) (c .enum-told .given .1)))
-    ∙ w .loop .inv .1 .1
+    let at-loop = c .before .before .before .before .before in
+    let line = c .before .before .task-line in
+    sym (lines-wrong _ _ (at-loop .loop .words) (at-loop .loop .t .now) (omega arith) (sym (line .ensures .says) ∙ ap (λ (n : Number). seen n (line .last .1 .1 .0 .now)) (c .enum-told .given .1)))
+    ∙ at-loop .loop .inv .1 .1
 
 mul-words : tie.Need-mul-words Inv-loop μ-loop
 mul-words c = search needs
@@ -61,27 +64,28 @@ loop-less c = search needs
 
 loop-again : tie.Need-loop-again Inv-loop μ-loop
 loop-again c =
-    let w = c .before .before .before .before .before .before in
-    let f = c .before .before .before .task-line in
-    let g = c .before .n .given in
-    let m = w .before .before .before .args .m in (
+    let at-loop = c .before .before .before .before .before .before in
+    let line = c .before .before .before .task-line in
+    let number = c .before .n .given in
+    let m = at-loop .before .before .before .args .m in (
       omega arith,
       (
-        simp length-set (w .loop .inv .1 .0),
-        lines-more m (w .loop .k) (w .loop .words) (w .loop .t .now) (omega arith) (g .0 .0) (f .last .1 .1 .0 .now) (omega arith) (sym (f .ensures .says) ∙ ap (λ (n : Number). seen n (f .last .1 .1 .0 .now)) (g .1))
-            ∙ w .loop .inv .1 .1,
+        simp length-set (at-loop .loop .inv .1 .0),
+        lines-more m (at-loop .loop .k) (at-loop .loop .words) (at-loop .loop .t .now) (omega arith) (number .0 .0) (line .last .1 .1 .0 .now) (omega arith) (sym (line .ensures .says) ∙ ap (λ (n : Number). seen n (line .last .1 .1 .0 .now)) (number .1))
+            ∙ at-loop .loop .inv .1 .1,
       ),
     )
 
 same-length-2 : tie.Need-same-length-2 Inv-loop μ-loop
 same-length-2 c = search needs
 
+-- all are
 returns-2 : tie.Need-returns-2 Inv-loop μ-loop
 returns-2 c =
-    let w = c .before in
-    let m = w .before .before .before .args .m in
-    let e : w .loop .k ≡ m = omega arith in
-    sym (lines-done m (w .loop .k) (w .loop .words) (w .loop .t .now) e) ∙ w .loop .inv .1 .1
+    let at-loop = c .before in
+    let m = at-loop .before .before .before .args .m in
+    let e : at-loop .loop .k ≡ m = omega arith in
+    sym (lines-done m (at-loop .loop .k) (at-loop .loop .words) (at-loop .loop .t .now) e) ∙ at-loop .loop .inv .1 .1
 
 pub task-lines-spec : {M : Type 1} → statement M
 task-lines-spec =

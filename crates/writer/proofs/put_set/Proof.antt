@@ -1,14 +1,17 @@
+-- `writer::put_set` meets its contract: what is left to write, put where the loop stands, gives at each turn the same buffer; at the end nothing is
+-- left, and after the first line it is all that follows in the text.
 use mathlib.Core.Path.{_≡_, refl, sym, ap, _∙_}
 use Prim.Native.Nat.{_+_, _-_, _/_, _≤_, _<_}
 use native.Mathlib.Omega.{arith}
 use lib.ListN.{length, drop}
 use Rattle.rules.specs.Text.{tasksKey, digits, writeLines}
-use Rattle.lines.specs.Line.{put}
-use Rattle.lines.proofs.Putting.{put-nil, line-length}
-use Rattle.text.proofs.Writing.{set-length, no-more, line-room, step-length, turn, all-put}
+use Rattle.print.specs.Place.{put}
+use Rattle.rules.proofs.WriteSteps.{line-length, set-length, no-more, line-room, step-length}
+use Rattle.print.proofs.Putting.{put-nil}
+use Rattle.writer.proofs.Writing.{turn, all-put}
 use borrow.Author.Needs.{needs}
-use Rattle.text.proofs.put_set.Statement.{statement}
-use Rattle.text.proofs.put_set.Tie as tie
+use Rattle.writer.proofs.put_set.Statement.{statement}
+use Rattle.writer.proofs.put_set.Tie as tie
 
 abbrev Inv-loop : tie.InvT-loop
 Inv-loop table out₀ at₀ k₀ out at k =
@@ -27,17 +30,17 @@ cast-put-line c = search needs
 
 put-line-requires : tie.Need-put-line-requires Inv-loop μ-loop
 put-line-requires c κs =
-    let s = c .before .before .before .before in
-    let t = s .args .table .now in
-    omega (arith, set-length t, line-length tasksKey (digits (length t / 4)), s .pre .1)
+    let at-entry = c .before .before .before .before in
+    let t = at-entry .args .table .now in
+    omega (arith, set-length t, line-length tasksKey (digits (length t / 4)), at-entry .pre .1)
 
 loop-holds : tie.Need-loop-holds Inv-loop μ-loop
 loop-holds c =
-    let p = c .before .before in
-    let s = p .before .before .before .before .before in
-    let t = s .args .table .now in
-    let n = p .put-line .ensures .says in
-    (omega arith, (refl, (omega (arith, set-length t, line-length tasksKey (digits (length t / 4)), s .pre .1, p .put-line .kept), refl)))
+    let first = c .before .before in
+    let at-entry = first .before .before .before .before .before in
+    let t = at-entry .args .table .now in
+    let n = first .put-line .ensures .says in
+    (omega arith, (refl, (omega (arith, set-length t, line-length tasksKey (digits (length t / 4)), at-entry .pre .1, first .put-line .kept), refl)))
 
 mul-put-task-line : tie.Need-mul-put-task-line Inv-loop μ-loop
 mul-put-task-line c = search needs
@@ -47,11 +50,11 @@ shared-slice-read-put-task-line c = search needs
 
 put-task-line-requires : tie.Need-put-task-line-requires Inv-loop μ-loop
 put-task-line-requires c κs =
-    let w = c .before .before .before in
-    let t = w .before .before .before .before .before .before .before .before .args .table .now in
-    let k = w .loop .k in
+    let at-loop = c .before .before .before in
+    let t = at-loop .before .before .before .before .before .before .before .before .args .table .now in
+    let k = at-loop .loop .k in
     let h : k < length t = omega arith in
-    (omega arith, omega (arith, step-length t k h, line-room t k h, w .loop .inv .1 .1 .0))
+    (omega arith, omega (arith, step-length t k h, line-room t k h, at-loop .loop .inv .1 .1 .0))
 
 add-k : tie.Need-add-k Inv-loop μ-loop
 add-k c = search needs
@@ -61,20 +64,20 @@ loop-less c = search needs
 
 loop-again : tie.Need-loop-again Inv-loop μ-loop
 loop-again c =
-    let q = c .before .before in
-    let w = q .before .before .before .before in
-    let t = w .before .before .before .before .before .before .before .before .args .table .now in
-    let k = w .loop .k in
+    let line = c .before .before in
+    let at-loop = line .before .before .before .before in
+    let t = at-loop .before .before .before .before .before .before .before .before .args .table .now in
+    let k = at-loop .loop .k in
     let h : k < length t = omega arith in
-    let n = q .put-task-line .ensures .says in
-    let m = w .loop .inv .1 .1 .0 in
-    let l : length (q .put-task-line .last .0) ≡ length (w .loop .out) = q .put-task-line .kept .0 in (
+    let n = line .put-task-line .ensures .says in
+    let m = at-loop .loop .inv .1 .1 .0 in
+    let l : length (line .put-task-line .last .0) ≡ length (at-loop .loop .out) = line .put-task-line .kept .0 in (
       omega arith,
       (
-        l ∙ w .loop .inv .1 .0,
+        l ∙ at-loop .loop .inv .1 .0,
         (
           omega (arith, step-length t k h, line-room t k h),
-          turn t k h (w .loop .out) (w .loop .at) m (q .put-task-line .ensures) ∙ w .loop .inv .1 .1 .1,
+          turn t k h (at-loop .loop .out) (at-loop .loop .at) m (line .put-task-line .ensures) ∙ at-loop .loop .inv .1 .1 .1,
         ),
       ),
     )
@@ -84,16 +87,16 @@ same-length c = search needs
 
 returns : tie.Need-returns Inv-loop μ-loop
 returns c =
-    let w = c .before in
-    let p = w .before .before .before in
-    let s = p .before .before .before .before .before in
-    let t = s .args .table .now in
-    let k = w .loop .k in
+    let at-loop = c .before in
+    let first = at-loop .before .before .before in
+    let at-entry = first .before .before .before .before .before in
+    let t = at-entry .args .table .now in
+    let k = at-loop .loop .k in
     let h : length t ≤ k = omega arith in
-    sym (put-nil (w .loop .out) (w .loop .at))
-    ∙ ap (put (w .loop .out) (w .loop .at)) (sym (no-more t k h))
-    ∙ w .loop .inv .1 .1 .1
-    ∙ all-put t (s .args .out .now) (s .pre .1) (p .put-line .ensures)
+    sym (put-nil (at-loop .loop .out) (at-loop .loop .at))
+    ∙ ap (put (at-loop .loop .out) (at-loop .loop .at)) (sym (no-more t k h))
+    ∙ at-loop .loop .inv .1 .1 .1
+    ∙ all-put t (at-entry .args .out .now) (at-entry .pre .1) (first .put-line .ensures)
 
 pub put-set-spec : {M : Type 1} → statement M
 put-set-spec =

@@ -1,12 +1,14 @@
+-- `writer::text_length` meets its contract: the total and the length of the lines still to count are at each turn the length of the text; 256
+-- lines of at most 13 bytes keep it small.
 use mathlib.Core.Path.{_≡_, ap}
 use Prim.Native.Nat.{_+_, _-_, _*_, _≤_}
 use native.Mathlib.Omega.{arith}
 use lib.ListN.{length, drop}
 use Rattle.rules.specs.Text.{writeLines, writeSet}
-use Rattle.text.proofs.Writing.{set-length, no-more, step-length}
+use Rattle.rules.proofs.WriteSteps.{set-length, no-more, step-length}
 use borrow.Author.Needs.{needs}
-use Rattle.text.proofs.text_length.Statement.{statement}
-use Rattle.text.proofs.text_length.Tie as tie
+use Rattle.writer.proofs.text_length.Statement.{statement}
+use Rattle.writer.proofs.text_length.Tie as tie
 
 abbrev Inv-loop : tie.InvT-loop
 Inv-loop table total₀ k₀ total k = (k ≤ length table) × ((total ≤ 17 + 13 * k) × (total + length (writeLines k (drop k table)) ≡ length (writeSet table)))
@@ -51,14 +53,14 @@ loop-less c = search needs
 
 loop-again : tie.Need-loop-again Inv-loop μ-loop
 loop-again c =
-    let w = c .before .before .before in
+    let at-loop = c .before .before .before in
     let e = c .width2 .ensures .0 in
-    (omega arith, (omega arith, omega (arith, step-length (w .before .before .before .args .table .now) (w .loop .k) (omega arith))))
+    (omega arith, (omega arith, omega (arith, step-length (at-loop .before .before .before .args .table .now) (at-loop .loop .k) (omega arith))))
 
 returns : tie.Need-returns Inv-loop μ-loop
 returns c =
-    let w = c .before in
-    let e = ap length (no-more (w .before .before .before .args .table .now) (w .loop .k) (omega arith)) in
+    let at-loop = c .before in
+    let e = ap length (no-more (at-loop .before .before .before .args .table .now) (at-loop .loop .k) (omega arith)) in
     (omega arith, omega arith)
 
 pub text-length-spec : {M : Type 1} → statement M

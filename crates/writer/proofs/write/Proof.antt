@@ -1,22 +1,26 @@
-use mathlib.Core.Path.{_≡_}
+-- `writer::write` meets its contract: a table that is refused, a buffer shorter than the text, or the text put at its start; each is a case of the
+-- writer's call.
+use mathlib.Core.Path.{_≡_, ap, _∙_}
 use Prim.Native.Nat.{_≤_}
 use native.Mathlib.Omega.{arith}
 use mathlib.Core.Option.{none}
 use lib.ListN.{length}
+use Rattle.rules.specs.Numbers.{tableMost}
 use Rattle.rules.specs.Table.{tableRefusal}
-use Rattle.rules.proofs.Tables.{valid-of}
-use Rattle.table.proofs.Answers.{not-refused, refused-by}
-use Rattle.text.proofs.Writing.{refused, no-room, written}
+use Rattle.rules.specs.declared.WriteAnswer.{WriteAnswer}
+use Rattle.rules.proofs.Calls.{refused-by, not-refused, in-bounds, write-refused, write-short, write-text}
 use borrow.Author.Needs.{needs}
-use Rattle.text.proofs.write.Statement.{statement}
-use Rattle.text.proofs.write.Tie as tie
+use Rattle.writer.proofs.write.Statement.{statement}
+use Rattle.writer.proofs.write.Tie as tie
 
 -- the table is not refused, and so it is short
 fine : (c : tie.After-enum-told) → tableRefusal (c .before .before .before .before .before .args .table .now) ≡ none
 fine c = not-refused _ (c .before .before .check-table .ensures) (c .enum-told .given .1)
 
-few : (c : tie.After-enum-told) → length (c .before .before .before .before .before .args .table .now) ≤ 256
-few c = let v = valid-of _ (fine c) in omega (arith, v .words, v .most-tasks)
+few : (c : tie.After-enum-told) → length (c .before .before .before .before .before .args .table .now) ≤ tableMost
+few c =
+    let v = in-bounds _ (c .before .before .check-table .ensures) (c .enum-told .given .1) in
+    omega (arith, v .words, v .most-tasks)
 
 check-table-requires : tie.Need-check-table-requires
 check-table-requires c κs = search needs
@@ -24,10 +28,11 @@ check-table-requires c κs = search needs
 enum-known-checked : tie.Need-enum-known-checked
 enum-known-checked c = search needs
 
+-- the table is refused
 returns : tie.Need-returns
 returns c =
-    let g = c .before .checked .given in
-    refused _ _ (g .0 .0) (refused-by _ _ (c .before .before .before .check-table .ensures) (g .1))
+    let refusal = c .before .checked .given in
+    write-refused _ _ (refusal .0 .0) (refused-by _ _ (c .before .before .before .check-table .ensures) (refusal .1))
 
 enum-told : tie.Need-enum-told
 enum-told c = search needs
@@ -35,31 +40,36 @@ enum-told c = search needs
 text-length-requires : tie.Need-text-length-requires
 text-length-requires c κs = few c
 
+-- the buffer is too short
 returns-2 : tie.Need-returns-2
 returns-2 c =
-    let d = c .before .before in
-    let a = d .before .before .before .before .before .args in
+    let is-table = c .before .before in
+    let a = is-table .before .before .before .before .before .args in
     let e = c .before .text-length .ensures .0 in
-    no-room (a .table .now) (a .out .now) (fine d) (omega arith)
+    write-short (a .table .now) (a .out .now) (fine is-table) (omega arith)
 
 put-set-requires : tie.Need-put-set-requires
 put-set-requires c κs =
-    let d = c .before .before .before in
+    let is-table = c .before .before .before in
     let e = c .before .before .text-length .ensures .0 in
-    (few d, omega (arith, c .before .if1 .left))
+    (few is-table, omega (arith, c .before .if1 .left))
 
+-- the length fits; the table's length is named too, so that an edit that answers it fails by the answer
 cast-t12 : tie.Need-cast-t12
-cast-t12 c = search needs
+cast-t12 c = omega (arith, few (c .before .before .before .before .before .before))
 
 same-length : tie.Need-same-length
 same-length c = search needs
 
+-- the text
 returns-3 : tie.Need-returns-3
 returns-3 c =
-    let f = c .before .before .before .before in
-    let d = f .before .before in
-    let a = d .before .before .before .before .before .args in
-    written (a .table .now) (a .out .now) (fine d) _ _ (f .before .text-length .ensures .0) (f .if1 .left) (c .before .before .put-set .ensures)
+    let has-room = c .before .before .before .before in
+    let is-table = has-room .before .before in
+    let a = is-table .before .before .before .before .before .args in
+    let long = has-room .before .text-length .ensures .0 in
+    let outcome = write-text (a .table .now) (a .out .now) (fine is-table) (omega (arith, has-room .if1 .left)) in
+    record { says = ap WriteAnswer.Written long ∙ outcome .says; leaves = c .before .before .put-set .ensures ∙ outcome .leaves }
 
 pub write-spec : {M : Type 1} → statement M
 write-spec =

@@ -1,4 +1,2 @@
 -- Laws that the proofs share.
-pub mod Tasks
-pub mod Terms
-pub mod Blockers
+mod Bounds

@@ -1,11 +1,11 @@
 -- A task's train by cases: how many jobs before an end tick and within a length, and which train in a named pattern.
 use mathlib.Core.Path.{_≡_, refl}
-use Prim.Native.Nat.{ℕ, _+_, _-_, _/_, _≤_, _<_}
+use Prim.Native.Nat.{ℕ, _+_, _-_, _*_, _/_, _≤_, _<_}
 use native.Mathlib.Nat.{div-le-self}
 use native.Mathlib.Omega.{arith}
 use borrow.Author.Tests.{le-leb, lt-leb, lt-ltb, le-ltb, eq-eqb, ne-eqb}
 use Rattle.rules.specs.declared.Task.{Task}
-use Rattle.rules.specs.Demand.{countWithin}
+use Rattle.rules.specs.Demand.{countWithin, due}
 use Rattle.rules.specs.Jobs.{countBefore, concreteTrain, namedTrain}
 use Rattle.rules.specs.declared.Blocker.{Blocker}
 use Rattle.rules.specs.declared.Train.{Train}
@@ -18,6 +18,11 @@ module _ (x : ℕ) (τ : Task) where
   pub within-none : x < τ .D → countWithin x τ ≡ 0
   unfolding countWithin
   within-none h = rw (lt-leb (τ .D) x h)
+
+  -- what is due, by that count
+  pub due-counted : due x τ ≡ τ .C * countWithin x τ
+  unfolding due
+  due-counted = refl
 
   pub before-some : τ .R < x → countBefore x τ ≡ 1 + (x - 1 - τ .R) / τ .T
   unfolding countBefore

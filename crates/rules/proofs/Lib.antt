@@ -5,6 +5,7 @@ pub mod Search
 pub mod Tables
 pub mod Refused
 pub mod Calls
+pub mod TableSteps
 -- the dispatcher: what it picks, its runs, its rules, and that they leave one list of rows
 pub mod Taken
 pub mod Legal
@@ -26,6 +27,10 @@ pub mod Meets
 pub mod Late
 pub mod Misses
 pub mod Least
+-- the walk over the tasks and the two looks, as code makes them
+pub mod TasksLeft
+pub mod LongestWait
+pub mod Looks
 -- the text, read and written
 pub mod Slices
 pub mod Digits

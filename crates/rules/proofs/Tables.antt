@@ -11,7 +11,7 @@ use lib.ListN.{length, getD, drop, drop-of-length-le}
 use lib.Seq.{drop-cons}
 use borrow.Author.Tests.{leb-true, ltb-false, eqb-true, eqb-false, ne-eqb, not-false}
 use Rattle.rules.specs.Choice.{if_then_else_}
-use Rattle.rules.specs.Task.{tasksOf, taskAt, AllSound}
+use Rattle.rules.specs.Task.{tasksOf, taskAt, Sound, AllSound}
 use Rattle.rules.specs.declared.Task.{Task}
 use Rattle.rules.specs.Refusals.{_when_, firstOf}
 use Rattle.rules.specs.Numbers.{taskMost, wordMost}
@@ -131,11 +131,18 @@ taskAt-from w (suc n) k (suc i) h =
 pub taskAt-is : (w : List ℕ) (m i : ℕ) → length w ≡ 4 * m → i < m → taskAt (tasksOf w) i ≡ taskIn w i
 taskAt-is w m i e h = ap (λ (l : List Task). taskAt l i) (tasks-are w m e) ∙ taskAt-from w m 0 i h ∙ ap (taskIn w) (zero-add i)
 
+-- each task of a table that is not refused: C, D and T are 1 or more, and C is at most 65,535
+pub task-sound : (w : List ℕ) (m i : ℕ) → Valid w m → i < m → Sound (taskIn w i)
+task-sound w m i v h = record { C-pos = v .C-low i h; D-pos = v .D-low i h; T-pos = v .T-low i h }
+
+pub task-C-most : (w : List ℕ) (m i : ℕ) → Valid w m → i < m → taskIn w i .C ≤ wordMost
+task-C-most w m i v h = v .high (4 * i) (omega arith)
+
 sound-from : (w : List ℕ) (m n k : ℕ) → Valid w m → k + n ≤ m → AllSound (tasksFrom w n k)
 unfolding tasksFrom
 sound-from w m zero k v h τ x = absurd (List·Memᴰ·not-nil x)
 sound-from w m (suc n) k v h τ (List·Memᴰ·head e) =
-    rw e (record { C-pos = v .C-low k (omega arith); D-pos = v .D-low k (omega arith); T-pos = v .T-low k (omega arith) })
+    rw e (task-sound w m k v (omega arith))
 sound-from w m (suc n) k v h τ (List·Memᴰ·tail x) = sound-from w m n (suc k) v (omega arith) τ x
 
 -- the tasks of a table that is not refused have C, D and T of 1 or more

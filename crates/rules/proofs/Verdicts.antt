@@ -7,6 +7,7 @@ use native.Mathlib.Omega.{arith}
 use mathlib.Core.List.{List, [], _∷_, List·Memᴰ·head, List·Memᴰ·tail}
 use mathlib.Core.Bool.{Bool, true, false}
 use mathlib.Core.Option.{Option, none, some}
+use lib.Dec.{ltb}
 use borrow.Author.Tests.{leb-true, ltb-true, le-leb, lt-ltb, le-ltb, lt-leb}
 use Rattle.rules.specs.Choice.{least}
 use Rattle.rules.specs.Task.{AllSound}
@@ -48,6 +49,15 @@ module _ (ts : List Task) where
   unfolding fails
   fails-when L =
       (λ e. let h = both-true _ _ e in (leb-true _ _ (h .0), ltb-true _ _ (h .1)), λ h. both _ _ (le-leb _ _ (h .0)) (lt-ltb _ _ (h .1)))
+
+  -- the test on a length, by what is due
+  pub fails-not : (L : ℕ) → Due L ts < 1 → fails L ts ≡ false
+  unfolding fails
+  fails-not L h = rw (lt-leb 1 (Due L ts) h)
+
+  pub fails-by : (L : ℕ) → 1 ≤ Due L ts → fails L ts ≡ ltb L (Due L ts + Wait L ts)
+  unfolding fails
+  fails-by L h = rw (le-leb 1 (Due L ts) h)
 
   pub closes-when : (t : ℕ) → (closes t ts ≡ true) ↔ (work t ts ≤ t)
   unfolding closes
@@ -108,6 +118,10 @@ module _ (ts : List Task) where
 div-grows : (a b k : ℕ) → a ≤ b → a / k ≤ b / k
 div-grows a b zero h = rw (div-zero a, div-zero b) (omega arith)
 div-grows a b (suc k) h = le-div-iff-mul-le {k = suc k} (omega arith) .1 (le-trans (div-mul-le-self a (suc k)) h)
+
+pub ceiling-is : (t T : ℕ) → ceiling t T ≡ (t + T - 1) / T
+unfolding ceiling
+ceiling-is t T = refl
 
 pub ceiling-grows : (s t T : ℕ) → s ≤ t → ceiling s T ≤ ceiling t T
 unfolding ceiling

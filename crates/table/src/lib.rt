@@ -2,6 +2,7 @@
 ghost use mathlib.Core.Path.{_≡_};
 ghost use Prim.Native.Nat.{_+_, _*_, _≤_, _<_};
 ghost use lib.ListN.{length};
+ghost use Rattle.rules.specs.Numbers.{tableMost};
 ghost use Rattle.rules.specs.Refusals.{answering};
 ghost use Rattle.rules.specs.Table.{wordLeast, inRange, outOfRange, tableAnswer, taskIn};
 use rules::Refusal;
@@ -54,7 +55,7 @@ fn in_range(i: usize, x: u32) -> bool
 
 // Refusal 4, with the index of the first word out of its range.
 fn check_words(table: &[u32]) -> TableAnswer
-    requires { ⌜ length (now table) ≤ 256 ⌝ }
+    requires { ⌜ length (now table) ≤ tableMost ⌝ }
     ensures { λ r. ⌜ r ≡ answering (outOfRange 0 (now (table .entry))) TableAnswer.Refused TableAnswer.Fine ⌝ }
 {
     let mut i: usize = 0;

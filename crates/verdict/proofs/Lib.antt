@@ -1,3 +1,2 @@
--- Laws that the proofs share.
-pub mod Looks
+-- What is proved of the call.
 pub mod Answered

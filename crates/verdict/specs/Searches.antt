@@ -1,9 +1,9 @@
--- What a search answers.
+-- What a look answers.
 use Prim.Native.Nat.{ℕ}
 use mathlib.Core.Option.{Option, none, some}
 use Rattle.verdict.specs.declared.Found.{Found}
 
--- a number, or that there is none
-abbrev pub answerOf : Found → Option ℕ
-answerOf (Found.At x) = some x
-answerOf Found.Nowhere = none
+-- the number that is found, or none
+abbrev pub foundAt : Found → Option ℕ
+foundAt (Found.At x) = some x
+foundAt Found.Nowhere = none

@@ -5,7 +5,8 @@ ghost use Rattle.rules.specs.Demand.{firstFail, span, verdict};
 ghost use Rattle.rules.specs.Answers.{verdictAnswer};
 ghost use Rattle.promises.specs.Demands.{KeptBy};
 ghost use Rattle.rules.specs.Table.{ValidTable};
-ghost use Rattle.verdict.specs.Searches.{answerOf};
+ghost use Rattle.verdict.specs.Searches.{foundAt};
+use arith::wide;
 use demand::blocker_at;
 use demand::fails_at;
 use demand::work_at;
@@ -13,13 +14,12 @@ use rules::TableAnswer;
 use rules::Verdict;
 use rules::VerdictAnswer;
 use table::check_table;
-use table::wide;
 
 // The longest length looked at, and the greatest span.
 const HORIZON: u32 = 100000;
 
 // The answer of a search.
-pub enum Found {
+enum Found {
     At(u32),
     Nowhere,
 }
@@ -27,7 +27,7 @@ pub enum Found {
 // The least length from 1 to H that fails.
 fn first_fail(table: &[u32]) -> Found
     requires { ⌜ ValidTable (now table) ⌝ }
-    ensures { λ r. ⌜ answerOf r ≡ firstFail (tasksOf (now (table .entry))) ⌝ }
+    ensures { λ r. ⌜ foundAt r ≡ firstFail (tasksOf (now (table .entry))) ⌝ }
 {
     let mut length: u32 = 1;
     while length <= HORIZON {
@@ -43,7 +43,7 @@ fn first_fail(table: &[u32]) -> Found
 // The span: no t below the work of one that does not close can close, so the look goes on from there.
 fn find_span(table: &[u32]) -> Found
     requires { ⌜ ValidTable (now table) ⌝ }
-    ensures { λ r. ⌜ answerOf r ≡ span (tasksOf (now (table .entry))) ⌝ }
+    ensures { λ r. ⌜ foundAt r ≡ span (tasksOf (now (table .entry))) ⌝ }
 {
     let mut t: u32 = 1;
     loop {

@@ -1,3 +1,5 @@
+-- `table::check_words` names the first word out of its range: the words from i on decide as all of them do, and each step either stops at
+-- word i or leaves the decision to those after it.
 use mathlib.Core.Path.{_≡_, refl, sym, ap, _∙_}
 use Prim.Native.Nat.{_-_, _≤_}
 use native.Mathlib.Omega.{arith}
@@ -9,7 +11,7 @@ use Rattle.rules.specs.Refusals.{answering}
 use Rattle.rules.specs.Table.{outOfRange}
 use Rattle.rules.specs.declared.Refusal.{Refusal}
 use Rattle.rules.specs.declared.TableAnswer.{TableAnswer}
-use Rattle.table.proofs.Words.{past-all, word-fits, word-out}
+use Rattle.rules.proofs.TableSteps.{past-all, word-fits, word-out}
 use Rattle.table.proofs.check_words.Statement.{statement}
 use Rattle.table.proofs.check_words.Tie as tie
 
@@ -38,12 +40,13 @@ in-range-requires c κs = search needs
 cast-t8 : tie.Need-cast-t8 Inv-loop μ-loop
 cast-t8 c = search needs
 
+-- word i is out of its range
 returns : tie.Need-returns Inv-loop μ-loop
 returns c =
-    let w = c .before .before .before .before in
-    let f = c .before .in-range in
-    let e = word-out _ (w .loop .i) (c .before .before .before .loop-test .taken) (sym (f .ensures) ∙ not-true (f .result) (c .if1 .taken)) in
-    ap answer (sym e ∙ w .loop .inv .1)
+    let at-loop = c .before .before .before .before .loop in
+    let tested = c .before .in-range in
+    let out = word-out _ (at-loop .i) (c .before .before .before .loop-test .taken) (sym (tested .ensures) ∙ not-true (tested .result) (c .if1 .taken)) in
+    ap answer (sym out ∙ at-loop .inv .1)
 
 add-i : tie.Need-add-i Inv-loop μ-loop
 add-i c = search needs
@@ -51,19 +54,21 @@ add-i c = search needs
 loop-less : tie.Need-loop-less Inv-loop μ-loop
 loop-less c = search needs
 
+-- word i fits
 loop-again : tie.Need-loop-again Inv-loop μ-loop
 loop-again c =
-    let w = c .before .before .before .before in
-    let f = c .before .in-range in (
+    let at-loop = c .before .before .before .before .loop in
+    let tested = c .before .in-range in (
       omega arith,
-      sym (word-fits _ (w .loop .i) (c .before .before .before .loop-test .taken) (sym (f .ensures) ∙ not-false (f .result) (c .if1 .left)))
-          ∙ w .loop .inv .1,
+      sym (word-fits _ (at-loop .i) (c .before .before .before .loop-test .taken) (sym (tested .ensures) ∙ not-false (tested .result) (c .if1 .left)))
+          ∙ at-loop .inv .1,
     )
 
+-- no word is left
 returns-2 : tie.Need-returns-2 Inv-loop μ-loop
 returns-2 c =
-    let w = c .before in
-    ap answer (sym (past-all _ (w .loop .i) (c .loop-test .left)) ∙ w .loop .inv .1)
+    let at-loop = c .before .loop in
+    ap answer (sym (past-all _ (at-loop .i) (c .loop-test .left)) ∙ at-loop .inv .1)
 
 pub check-words-spec : {M : Type 1} → statement M
 check-words-spec =

@@ -1,5 +1,8 @@
+-- `verdict::judge_table` gives the verdict: the two looks find what the definition searches for, and it is judged by them in the same order.
+use mathlib.Core.Path.{_≡_, sym, ap, _∙_}
 use borrow.Author.Needs.{needs}
-use Rattle.verdict.proofs.Looks.{judged-misses, judged-meets, judged-far}
+use Rattle.rules.proofs.Looks.{verdict-misses, verdict-meets, verdict-too-far}
+use Rattle.verdict.specs.Searches.{foundAt}
 use Rattle.verdict.proofs.judge_table.Statement.{statement}
 use Rattle.verdict.proofs.judge_table.Tie as tie
 
@@ -12,8 +15,12 @@ enum-known-first c = search needs
 blocker-at-requires : tie.Need-blocker-at-requires
 blocker-at-requires c κs = search needs
 
+-- a length fails
 returns : tie.Need-returns
-returns c = judged-misses _ _ (c .before .before .before .before .first-fail .ensures) _ _ (c .before .before .first .given .1) (c .blocker-at .ensures)
+returns c =
+    let at-found = c .before .before in
+    rw (c .blocker-at .ensures)
+    (sym (verdict-misses _ _ (sym (at-found .before .before .first-fail .ensures) ∙ ap foundAt (at-found .first .given .1))))
 
 enum-told : tie.Need-enum-told
 enum-told c = search needs
@@ -27,15 +34,23 @@ enum-known-last c = search needs
 enum-told-2 : tie.Need-enum-told-2
 enum-told-2 c = search needs
 
+-- none fails, and there is a span
 returns-2 : tie.Need-returns-2
 returns-2 c =
-    let a = c .before .before .before .before in
-    judged-meets _ _ (a .before .before .first-fail .ensures) (a .enum-told .given .1) _ (c .before .before .before .find-span .ensures) _ (c .before .last .given .1)
+    let after-span = c .before .before .before in
+    let at-nowhere = after-span .before in
+    sym
+    (verdict-meets _ _ (sym (at-nowhere .before .before .first-fail .ensures) ∙ ap foundAt (at-nowhere .enum-told .given .1))
+    (sym (after-span .find-span .ensures) ∙ ap foundAt (c .before .last .given .1)))
 
+-- none fails, and there is no span
 returns-3 : tie.Need-returns-3
 returns-3 c =
-    let a = c .before .before .before in
-    judged-far _ _ (a .before .before .first-fail .ensures) (a .enum-told .given .1) _ (c .before .before .find-span .ensures) (c .enum-told2 .given .1)
+    let after-span = c .before .before in
+    let at-nowhere = after-span .before in
+    sym
+    (verdict-too-far _ (sym (at-nowhere .before .before .first-fail .ensures) ∙ ap foundAt (at-nowhere .enum-told .given .1))
+    (sym (after-span .find-span .ensures) ∙ ap foundAt (c .enum-told2 .given .1)))
 
 pub judge-table-spec : {M : Type 1} → statement M
 judge-table-spec =

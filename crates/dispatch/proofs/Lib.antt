@@ -1,11 +1,5 @@
--- Laws about jobs, trains and the dispatcher's state.
-pub mod Sums
+-- Laws of what is held from row to row, of the loop that writes the rows, and of the one that fills the arrays.
 pub mod Fours
-pub mod Order
-pub mod Picks
-pub mod Trains
-pub mod Totals
-pub mod Walk
-pub mod Rest
+pub mod Held
 pub mod Loop
-pub mod Filled
+pub mod Filling

@@ -1,3 +1,2 @@
--- What the dispatcher promises, and its state.
-pub mod Plan
-pub mod Counters
+-- What is held of the rows so far.
+pub mod Lateness

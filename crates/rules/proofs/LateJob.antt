@@ -2,33 +2,16 @@
 use mathlib.Core.Path.{_≡_, refl, sym, ap, _∙_}
 use mathlib.Core.Logic.{_↔_}
 use mathlib.Core.Option.{Option, none, some}
-use Prim.Native.Nat.{ℕ}
+use Prim.Native.Nat.{ℕ, _≤_, _<_}
 use native.Mathlib.Omega.{arith}
-use mathlib.Core.List.{List, [], _∷_, List·Memᴰ, List·Memᴰ·head, List·Memᴰ·tail, List·Memᴰ·not-nil}
-use mathlib.Core.Bool.{Bool, true, false, _&&_, _||_}
-use lib.Dec.{ltb, eqb}
-use borrow.Author.Tests.{ltb-true, eqb-true}
+use mathlib.Core.List.{List, [], _∷_, _++_, List·Memᴰ, List·Memᴰ·head, List·Memᴰ·tail, List·Memᴰ·not-nil}
+use mathlib.Core.Bool.{Bool, true, false}
+use borrow.Author.Tests.{lt-ltb, le-ltb}
 use Rattle.rules.specs.Choice.{if_then_else_}
-use Rattle.rules.specs.Dispatch.{Job, Row, late, before, sooner, lateJob}
+use Rattle.rules.specs.Dispatch.{Job, Row, finish, late, before, sooner, lateJob}
 use Rattle.rules.proofs.Booleans.{true-is-not-false}
 use Rattle.rules.specs.Policy.{Ahead, NamedLate}
-use Rattle.rules.proofs.Picked.{ahead-self, ahead-trans, before-true, before-false}
-
--- one that is ahead is not gone before
-pub ahead-first : (j i : Job) → Ahead j i → before i j ≡ false
-unfolding before
-ahead-first j i a = go (ltb (i .deadline) (j .deadline)) refl (eqb (i .deadline) (j .deadline)) refl (ltb (i .task) (j .task)) refl
-  where
-    go : (p : Bool) → ltb (i .deadline) (j .deadline) ≡ p → (q : Bool) → eqb (i .deadline) (j .deadline) ≡ q
-        → (r : Bool) → ltb (i .task) (j .task) ≡ r → p || (q && r) ≡ false
-    go true e q f r g = let l = ltb-true (i .deadline) (j .deadline) e in absurd (omega arith)
-    go false e false f r g = refl
-    go false e true f false g = refl
-    go false e true f true g =
-        let d = eqb-true (i .deadline) (j .deadline) f in
-        let l = ltb-true (i .task) (j .task) g in
-        let h = a .task (sym d) in
-        absurd (omega arith)
+use Rattle.rules.proofs.Order.{ahead-self, ahead-trans, before-true, before-false, ahead-first, sooner-none, earlier, earlier-assoc}
 
 -- j is the job of a late row, and is ahead of every late row's job
 record Latest (ws : List Row) (j : Job) : Type 0 where
@@ -121,3 +104,29 @@ late-only ws ties w m l first = go (lateJob ws) (names ws)
         let p = a .task d in
         let q = b .task (sym d) in
         ap some (sym (x .its-job) ∙ ties (x .row) (x .mem) w m (omega arith) d)
+
+-- of no row there is none
+pub late-no-row : lateJob [] ≡ none
+unfolding lateJob
+late-no-row = refl
+
+-- of one row: its job, where it finishes after its deadline
+pub late-one : (w : Row) → w .job .deadline < finish w → lateJob (w ∷ []) ≡ some (w .job)
+unfolding lateJob late
+late-one w h = rw (lt-ltb _ _ h) (sooner-none (w .job))
+
+pub late-not : (w : Row) → finish w ≤ w .job .deadline → lateJob (w ∷ []) ≡ none
+unfolding lateJob late
+late-not w h = rw (le-ltb _ _ h)
+
+-- of rows after rows: of the two late jobs the one that goes before
+pub late-append : (ws vs : List Row) → lateJob (ws ++ vs) ≡ earlier (lateJob ws) (lateJob vs)
+unfolding lateJob
+late-append [] vs = refl
+late-append (w ∷ ws) vs = go (late w) (late-append ws vs)
+  where
+    go : (b : Bool) → lateJob (ws ++ vs) ≡ earlier (lateJob ws) (lateJob vs)
+        → (if b then sooner (w .job) (lateJob (ws ++ vs)) else lateJob (ws ++ vs))
+        ≡ earlier (if b then sooner (w .job) (lateJob ws) else lateJob ws) (lateJob vs)
+    go true e = ap (sooner (w .job)) e ∙ sym (earlier-assoc (some (w .job)) (lateJob ws) (lateJob vs))
+    go false e = e

@@ -7,6 +7,7 @@ pub mod Refused
 pub mod Calls
 pub mod TableSteps
 -- the dispatcher: what it picks, its runs, its rules, and that they leave one list of rows
+pub mod Order
 pub mod Taken
 pub mod Legal
 pub mod Picked
@@ -14,11 +15,14 @@ pub mod Runs
 pub mod Dispatcher
 pub mod Determined
 pub mod LateJob
+pub mod Choosing
+pub mod RowWords
 -- trains of jobs, and the blocker
 pub mod Counts
 pub mod Rest
 pub mod Trains
 pub mod Members
+pub mod Planned
 pub mod Blockers
 -- demand 3: the verdict's three lines, meets, misses, the least length
 pub mod Verdicts

@@ -3,14 +3,14 @@ use mathlib.Core.Path.{_≡_, refl}
 use mathlib.Core.Option.{Option, none, some}
 use Prim.Native.Nat.{ℕ, min, _≤_, _<_}
 use mathlib.Core.List.{List, [], _∷_, List·Memᴰ, List·Memᴰ·head, List·Memᴰ·tail, List·Memᴰ·not-nil}
-use mathlib.Core.Bool.{Bool, true, false, _&&_, _||_}
+use mathlib.Core.Bool.{Bool, true, false}
 use native.Mathlib.Omega.{arith}
-use borrow.Author.Tests.{eqb-true, eqb-false, leb-true, leb-false, ltb-true, ltb-false}
-use lib.Dec.{eqb, leb, ltb}
+use borrow.Author.Tests.{leb-true, leb-false}
+use lib.Dec.{leb}
 use Rattle.rules.specs.Choice.{if_then_else_}
 use Rattle.rules.specs.Dispatch.{Job, before, sooner, pick, earliest}
 use Rattle.rules.specs.Policy.{Ahead}
-use Rattle.rules.proofs.Booleans.{true-is-not-false}
+use Rattle.rules.proofs.Order.{ahead-self, ahead-trans, before-true, before-false}
 use Rattle.rules.proofs.Taken.{mem-cons}
 
 -- no job of a list is released before the earliest release
@@ -31,36 +31,6 @@ earliest-some j (k ∷ js) = go (earliest-some k js) (leb (j .release) (earliest
         → (i : Job) × List·Memᴰ i (j ∷ k ∷ js) × (i .release ≡ min (j .release) (earliest k js))
     go x true e = (j, List·Memᴰ·head refl, omega (arith, leb-true))
     go x false e = (x .0, List·Memᴰ·tail (x .1), omega (arith, leb-false))
-
-pub ahead-self : (j : Job) → Ahead j j
-ahead-self j = record { deadline = omega arith; task = λ e. omega arith }
-
-pub ahead-trans : (k j i : Job) → Ahead k j → Ahead j i → Ahead k i
-ahead-trans k j i a b = record {
-  deadline = omega arith;
-  task = λ e. let p = a .task (omega arith) in let q = b .task (omega arith) in omega arith;
-}
-
--- by the test: the one that goes before is ahead; the other is ahead where it does not
-pub before-true : (i j : Job) → before i j ≡ true → Ahead i j
-unfolding before
-before-true i j e = go (ltb (i .deadline) (j .deadline)) refl (eqb (i .deadline) (j .deadline)) refl e
-  where
-    go : (a : Bool) → ltb (i .deadline) (j .deadline) ≡ a → (b : Bool) → eqb (i .deadline) (j .deadline) ≡ b
-        → a || (b && ltb (i .task) (j .task)) ≡ true → Ahead i j
-    go true p b q h = record { deadline = omega (arith, ltb-true); task = λ x. omega (arith, ltb-true) }
-    go false p true q h = record { deadline = omega (arith, eqb-true); task = λ x. omega (arith, ltb-true) }
-    go false p false q h = let z : _≡_ {A = ℕ} 0 1 = cc in absurd (omega arith)
-
-pub before-false : (i j : Job) → before i j ≡ false → Ahead j i
-unfolding before
-before-false i j e = go (ltb (i .deadline) (j .deadline)) refl (eqb (i .deadline) (j .deadline)) refl e
-  where
-    go : (a : Bool) → ltb (i .deadline) (j .deadline) ≡ a → (b : Bool) → eqb (i .deadline) (j .deadline) ≡ b
-        → a || (b && ltb (i .task) (j .task)) ≡ false → Ahead j i
-    go true p b q h = true-is-not-false h
-    go false p true q h = record { deadline = omega (arith, ltb-false); task = λ x. omega (arith, ltb-false) }
-    go false p false q h = record { deadline = omega (arith, ltb-false); task = λ x. absurd (omega (arith, eqb-false)) }
 
 -- j is of js, is released by s, and is ahead of every job of js that is released by s
 pub record Picked (s : ℕ) (js : List Job) (j : Job) : Type 0 where

@@ -138,6 +138,9 @@ task-sound w m i v h = record { C-pos = v .C-low i h; D-pos = v .D-low i h; T-po
 pub task-C-most : (w : List ℕ) (m i : ℕ) → Valid w m → i < m → taskIn w i .C ≤ wordMost
 task-C-most w m i v h = v .high (4 * i) (omega arith)
 
+pub task-T-most : (w : List ℕ) (m i : ℕ) → Valid w m → i < m → taskIn w i .T ≤ wordMost
+task-T-most w m i v h = v .high (4 * i + 2) (omega arith)
+
 sound-from : (w : List ℕ) (m n k : ℕ) → Valid w m → k + n ≤ m → AllSound (tasksFrom w n k)
 unfolding tasksFrom
 sound-from w m zero k v h τ x = absurd (List·Memᴰ·not-nil x)

@@ -94,3 +94,15 @@ without-taken (i ∷ js) d j m = go (same j i) refl m (without-taken js (d .1) j
     go true e (List·Memᴰ·tail n) ih = true-is-not-false (sym e ∙ d .0 j n)
     go false e (List·Memᴰ·head q) ih = absurd (same-false j i e (ap (λ (x : Job). x .task) q) (ap (λ (x : Job). x .number) q))
     go false e (List·Memᴰ·tail n) ih = later (ih n)
+
+-- of any list it takes out one job, where the job is of the list
+pub without-shorter : (js : List Job) (j : Job) → List·Memᴰ j js → length js ≡ suc (length (without j js))
+unfolding without
+without-shorter [] j m = absurd (List·Memᴰ·not-nil m)
+without-shorter (i ∷ js) j m = go (same j i) refl m (without-shorter js j)
+  where
+    go : (b : Bool) → same j i ≡ b → List·Memᴰ j (i ∷ js) → (List·Memᴰ j js → length js ≡ suc (length (without j js)))
+        → suc (length js) ≡ suc (length (if b then js else i ∷ without j js))
+    go true e m ih = refl
+    go false e (List·Memᴰ·head q) ih = absurd (same-false j i e (ap (λ (x : Job). x .task) q) (ap (λ (x : Job). x .number) q))
+    go false e (List·Memᴰ·tail n) ih = ap suc (ih n)

@@ -1,7 +1,7 @@
 use native.Mathlib.Omega.{arith}
 use borrow.Author.Needs.{needs}
 use borrow.Author.Tests.{lt-ltb}
-use Rattle.dispatch.proofs.Loop.{on-time, stays, takes-over}
+use Rattle.dispatch.proofs.Held.{on-time, stays, takes-over}
 use Rattle.dispatch.proofs.noted.Statement.{statement}
 use Rattle.dispatch.proofs.noted.Tie as tie
 

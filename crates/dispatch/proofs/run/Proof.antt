@@ -1,72 +1,66 @@
-use denote.Ref.{now}
-use mathlib.Core.Path.{ap}
+-- `dispatch::run` writes the rows of the jobs that the arrays hold: each turn of the loop is one row of the rules' dispatcher, and after n of
+-- them no job is left.
+use Prim.Native.Nat.{ℕ, _+_, _-_}
+use mathlib.Core.Path.{ap, _∙_}
 use native.Mathlib.Omega.{arith}
 use borrow.Author.Needs.{needs}
-use Prim.Native.Nat.{ℕ, _+_, _-_}
+use Rattle.rules.specs.declared.Task.{Task}
 use Rattle.dispatch.proofs.Loop.{State, state-begin, state-length, state-more, state-end}
 use Rattle.dispatch.proofs.run.Statement.{statement}
 use Rattle.dispatch.proofs.run.Tie as tie
 
 abbrev Inv-loop : tie.InvT-loop
-Inv-loop table first count rows₀ m n next₀ t₀ late₀ k₀ rows next t late k = State table first count rows₀ m n rows next t late k
+Inv-loop table first count n rows₀ m next₀ t₀ late₀ k₀ rows next t late k = State table first count rows₀ m n rows next t late k
 
 abbrev μ-loop : tie.MeasureT-loop
-μ-loop table first count rows₀ m n next₀ t₀ late₀ k₀ rows next t late k = n - k
-
-total-jobs-requires : tie.Need-total-jobs-requires Inv-loop μ-loop
-total-jobs-requires c κs = c .before .before .pre .0
+μ-loop table first count n rows₀ m next₀ t₀ late₀ k₀ rows next t late k = n - k
 
 loop-holds : tie.Need-loop-holds Inv-loop μ-loop
 loop-holds c =
-    let s = c .before .before .before in
-    state-begin _ _ _ _ _ _ (s .pre .0) (c .total-jobs .ensures) (omega (arith, c .total-jobs .ensures .rows (now (s .args .first)), s .pre .1))
+    let at-start = c .before .before in
+    state-begin _ _ _ _ _ _ (at-start .pre .0) (at-start .pre .1 .0) (at-start .pre .1 .1 .1)
 
 choose-requires : tie.Need-choose-requires Inv-loop μ-loop
 choose-requires c κs =
-    let l = c .before .before in
-    (l .before .before .before .before .pre .0, (omega (arith, l .loop .inv .time, l .loop .inv .most, l .before .total-jobs .ensures .small), omega (arith, l .loop .inv .jobs, c .before .loop-test .taken)))
+    let at-loop = c .before .before in
+    let at-start = at-loop .before .before .before in
+    (at-start .pre .0, (omega (arith, at-loop .loop .inv .time, at-loop .loop .inv .most, at-start .pre .1 .1 .0), omega (arith, at-loop .loop .inv .jobs, c .before .loop-test .taken)))
 
--- the table, and its number of tasks
+-- the start, from where a turn's job is chosen
 abbrev start : tie.After-choose Inv-loop μ-loop → tie.Start Inv-loop μ-loop
-start c = c .before .before .before .before .before .before .before
+start at-turn = at-turn .before .before .before .before .before .before
 
 mul-q : tie.Need-mul-q Inv-loop μ-loop
-mul-q c = omega (arith, c .choose .ensures .is-task, start c .pre .0 .most-tasks)
+mul-q at-turn = omega (arith, at-turn .choose .ensures .is-task, start at-turn .pre .0 .most-tasks)
 
 array-read-q : tie.Need-array-read-q Inv-loop μ-loop
-array-read-q c = omega (arith, c .choose .ensures .is-task, start c .pre .0 .most-tasks)
+array-read-q at-turn = omega (arith, at-turn .choose .ensures .is-task, start at-turn .pre .0 .most-tasks)
 
-mul-wide : tie.Need-mul-wide Inv-loop μ-loop
-mul-wide c = omega (arith, c .choose .ensures .is-task, start c .pre .0 .most-tasks)
-
-mul-wide-2 : tie.Need-mul-wide-2 Inv-loop μ-loop
-mul-wide-2 c = omega (arith, c .choose .ensures .is-task, start c .pre .0 .most-tasks)
-
-shared-slice-read-wide : tie.Need-shared-slice-read-wide Inv-loop μ-loop
-shared-slice-read-wide c = omega (arith, c .before .choose .ensures .is-task, start (c .before) .pre .0 .words)
+task-at-requires : tie.Need-task-at-requires Inv-loop μ-loop
+task-at-requires at-turn κs = omega (arith, at-turn .choose .ensures .is-task, start at-turn .pre .0 .words)
 
 wide-requires : tie.Need-wide-requires Inv-loop μ-loop
 wide-requires c κs = search needs
 
 add-t : tie.Need-add-t Inv-loop μ-loop
 add-t c =
-    let x = c .before .before .before in
-    let l = x .before .before .before in
-    omega (arith, x .choose .ensures .soon, l .loop .inv .time, l .loop .inv .most, l .before .total-jobs .ensures .small, c .before .wide .ensures .1)
+    let at-turn = c .before .before .before in
+    let at-loop = at-turn .before .before .before in
+    omega (arith, at-turn .choose .ensures .soon, at-loop .loop .inv .time, at-loop .loop .inv .most, start at-turn .pre .1 .1 .0, c .before .wide .ensures .1)
 
 wide-requires-2 : tie.Need-wide-requires-2 Inv-loop μ-loop
 wide-requires-2 c κs = search needs
 
 put-row-requires : tie.Need-put-row-requires Inv-loop μ-loop
 put-row-requires c κs =
-    let x = c .before .before .before .before .before in
-    let l = x .before .before .before in
-    omega (arith, state-length _ _ _ _ _ _ (start x .pre .0) _ _ _ _ _ (l .loop .inv), l .loop .inv .fits, x .before .before .loop-test .taken)
+    let at-turn = c .before .before .before .before .before in
+    let at-loop = at-turn .before .before .before in
+    omega (arith, state-length _ _ _ _ _ _ (start at-turn .pre .0) _ _ _ _ _ (at-loop .loop .inv), at-loop .loop .inv .fits, at-turn .before .before .loop-test .taken)
 
 noted-requires : tie.Need-noted-requires Inv-loop μ-loop
 noted-requires c κs = search needs
 
--- the turn's choice
+-- where the turn's job was chosen, from where it is noted
 abbrev turn : tie.After-noted Inv-loop μ-loop → tie.After-choose Inv-loop μ-loop
 turn c = c .before .before .before .before .before .before .before .before .before
 
@@ -74,33 +68,41 @@ add-next : tie.Need-add-next Inv-loop μ-loop
 add-next c = omega (arith, turn c .choose .ensures .live, turn c .choose .ensures .few)
 
 mul-next : tie.Need-mul-next Inv-loop μ-loop
-mul-next c = omega (arith, turn c .choose .ensures .is-task, start (turn c) .pre .0 .most-tasks)
+mul-next c = mul-q (turn c)
 
 array-write-next : tie.Need-array-write-next Inv-loop μ-loop
 array-write-next c = omega (arith, turn c .choose .ensures .is-task, start (turn c) .pre .0 .most-tasks)
 
 add-k : tie.Need-add-k Inv-loop μ-loop
-add-k c = omega (arith, turn c .before .before .loop-test .taken, turn c .before .before .before .before .total-jobs .ensures .small)
+add-k c = omega (arith, turn c .before .before .loop-test .taken, start (turn c) .pre .1 .1 .0)
 
 loop-less : tie.Need-loop-less Inv-loop μ-loop
 loop-less c = omega (arith, turn c .before .before .loop-test .taken)
 
 loop-again : tie.Need-loop-again Inv-loop μ-loop
 loop-again c =
-    let x = turn c in
-    let l = x .before .before .before in
-    state-more _ _ _ _ _ _ (start x .pre .0) _ _ _ _ _ (l .loop .inv) (x .before .before .loop-test .taken) _ (x .choose .ensures) _ _
-    (c .before .before .before .before .before .wide2 .ensures .0) (ap (λ (v : ℕ). x .choose .result .start + v) (c .before .before .before .before .before .before .before .wide .ensures .0))
-    _ (c .noted .ensures) _ (c .before .before .before .put-row .ensures)
+    let after-row = c .before .before .before in
+    let after-number = after-row .before .before in
+    let after-run = after-number .before .before in
+    let at-turn = turn c in
+    let at-loop = at-turn .before .before .before in
+    let runs = after-run .wide .ensures .0 ∙ ap (λ (τ : Task). τ .C) (after-run .before .task-at .ensures) in
+    state-more _ _ _ _ _ _ (start at-turn .pre .0) _ _ _ _ _ (at-loop .loop .inv) (at-turn .before .before .loop-test .taken) _ (at-turn .choose .ensures) _ _
+    (after-number .wide2 .ensures .0) (ap (λ (v : ℕ). at-turn .choose .result .start + v) runs)
+    _ (c .noted .ensures) _ (after-row .put-row .ensures)
 
 answer-requires : tie.Need-answer-requires Inv-loop μ-loop
 answer-requires c κs = search needs
 
 same-length : tie.Need-same-length Inv-loop μ-loop
-same-length c = state-length _ _ _ _ _ _ (c .before .before .before .before .before .before .pre .0) _ _ _ _ _ (c .before .before .loop .inv)
+same-length c =
+    let at-loop = c .before .before in
+    state-length _ _ _ _ _ _ (at-loop .before .before .before .pre .0) _ _ _ _ _ (at-loop .loop .inv)
 
 returns : tie.Need-returns Inv-loop μ-loop
-returns c = state-end _ _ _ _ _ _ (c .before .before .before .before .before .before .pre .0) _ _ _ _ _ (c .before .before .loop .inv) (c .before .loop-test .left) _ (c .answer .ensures)
+returns c =
+    let at-loop = c .before .before in
+    state-end _ _ _ _ _ _ (at-loop .before .before .before .pre .0) _ _ _ _ _ (at-loop .loop .inv) (c .before .loop-test .left) _ (c .answer .ensures)
 
 pub run-spec : {M : Type 1} → statement M
 run-spec =
@@ -108,14 +110,11 @@ run-spec =
     (tie.spec
     Inv-loop
     μ-loop
-    total-jobs-requires
     loop-holds
     choose-requires
     mul-q
     array-read-q
-    mul-wide
-    mul-wide-2
-    shared-slice-read-wide
+    task-at-requires
     wide-requires
     add-t
     wide-requires-2

@@ -1,52 +1,18 @@
 -- The walk over the tasks, from the last down, that finds the next job.
-use mathlib.Core.Path.{_≡_, refl, sym, ap, subst, _∙_}
-use Prim.Native.Nat.{ℕ, suc, _+_, _-_, _*_, _^_, _≤_, _<_, min, max}
+use mathlib.Core.Path.{_≡_, sym, ap, subst, _∙_}
+use Prim.Native.Nat.{ℕ, suc, _+_, _-_, _^_, _≤_, _<_, max}
 use native.Mathlib.Omega.{arith}
-use mathlib.Core.Bool.{true, false}
 use mathlib.Core.List.{List, [], _∷_, _++_}
-use mathlib.Core.Option.{none, some}
+use mathlib.Core.Option.{some}
 use lib.ListN.{length, getD}
-use Rattle.rules.specs.Dispatch.{Job, before, sooner, pick, earliest, ready}
+use Rattle.rules.specs.Dispatch.{Job, sooner, pick, ready}
 use Rattle.rules.specs.Jobs.{train}
 use Rattle.rules.specs.Table.{taskIn}
-use Rattle.dispatch.specs.declared.Turn.{Turn}
-use Rattle.dispatch.specs.Counters.{releaseAt, jobAt, restFrom, Chosen, Best, nobody, somebody}
-use Rattle.dispatch.proofs.Order.{split, before-yes, before-no}
-use Rattle.dispatch.proofs.Picks.{pick-come, pick-not, pick-early}
-use Rattle.dispatch.proofs.Trains.{pick-train, ready-train}
-
--- ---- one job in front of others
-
-sooner-no : (i j : Job) → before i j ≡ false → sooner j (some i) ≡ some j
-unfolding sooner
-sooner-no i j e = rw e
-
-sooner-yes : (i j : Job) → before i j ≡ true → sooner j (some i) ≡ some i
-unfolding sooner
-sooner-yes i j e = rw e
-
-ready-after : (t : ℕ) (js : List Job) → t ≤ ready t js
-unfolding ready
-ready-after t [] = omega arith
-ready-after t (j ∷ js) = omega arith
-
-ready-one : (t : ℕ) (j : Job) → ready t (j ∷ []) ≡ max t (j .release)
-unfolding ready earliest
-ready-one t j = refl
-
-ready-more : (t s : ℕ) (j i : Job) (js : List Job) → pick s js ≡ some i → ready t (j ∷ js) ≡ min (max t (j .release)) (ready t js)
-unfolding ready earliest pick
-ready-more t s j i [] e = let z : _≡_ {A = ℕ} 0 1 = cc in absurd (omega arith)
-ready-more t s j i (k ∷ js) e = omega arith
-
-not-yet : (t s : ℕ) (js : List Job) → t ≤ s → s < ready t js → pick s js ≡ none
-unfolding ready pick
-not-yet t s [] h g = refl
-not-yet t s (j ∷ js) h g = pick-early s j js (omega arith)
-
-pick-one : (s : ℕ) (j : Job) (js : List Job) → j .release ≤ s → pick s js ≡ none → pick s (j ∷ js) ≡ some j
-unfolding sooner
-pick-one s j js h e = pick-come s j js h ∙ ap (sooner j) e
+use Rattle.rules.proofs.Booleans.{split}
+use Rattle.rules.proofs.Order.{ahead-first, goes-before, sooner-yes, sooner-no}
+use Rattle.rules.proofs.Choosing.{pick-come, pick-not, pick-one, pick-nobody, not-yet, ready-after, ready-one, ready-more, pick-train, ready-train, train-none}
+use Rattle.turn.specs.declared.Turn.{Turn}
+use Rattle.turn.specs.Counters.{releaseAt, jobAt, jobsAt, restFrom, Chosen, Best, nobody, somebody}
 
 -- ---- task i in front of those after it
 
@@ -58,7 +24,7 @@ pub record Offer (w f c nx : List ℕ) (t m i r a v : ℕ) : Type 0 where
   pub comes : r ≡ releaseAt w f i (getD nx i 0)
   pub early : r < 2 ^ 49
   pub starts : a ≡ max t r
-  pub due-in : v ≡ getD w (4 * i + 1) 0
+  pub due-in : v ≡ taskIn w i .D
 
 module _ (w f c nx : List ℕ) (t m : ℕ) where
   abbrev rest : ℕ → List Job
@@ -67,23 +33,19 @@ module _ (w f c nx : List ℕ) (t m : ℕ) where
   abbrev head : ℕ → Job
   head i = jobAt w f i (getD nx i 0)
 
-  rest-at : (i : ℕ) → i < m → rest i ≡ train (getD c i 0 - getD nx i 0) (getD nx i 0) (releaseAt w f i (getD nx i 0)) i (taskIn w i) ++ rest (i + 1)
+  rest-at : (i : ℕ) → i < m → rest i ≡ jobsAt w f c i (getD nx i 0) ++ rest (i + 1)
   unfolding restFrom
   rest-at i h =
       let e : m - i ≡ suc (m - (i + 1)) = omega arith in
       let s : suc i ≡ i + 1 = omega arith in
-      ap (λ (n : ℕ). restFrom w f c nx n i) e
-      ∙ ap (λ (k : ℕ). train (getD c i 0 - getD nx i 0) (getD nx i 0) (releaseAt w f i (getD nx i 0)) i (taskIn w i) ++ restFrom w f c nx (m - (i + 1)) k) s
+      ap (λ (n : ℕ). restFrom w f c nx n i) e ∙ ap (λ (k : ℕ). jobsAt w f c i (getD nx i 0) ++ restFrom w f c nx (m - (i + 1)) k) s
 
-  pub rest-none : rest m ≡ []
+  rest-none : rest m ≡ []
   unfolding restFrom
   rest-none = let e : m - m ≡ 0 = omega arith in ap (λ (n : ℕ). restFrom w f c nx n m) e
 
   rest-done : (i : ℕ) → i < m → getD c i 0 ≤ getD nx i 0 → rest i ≡ rest (i + 1)
-  unfolding train
-  rest-done i h d =
-      let e : getD c i 0 - getD nx i 0 ≡ 0 = omega arith in
-      rest-at i h ∙ ap (λ (n : ℕ). train n (getD nx i 0) (releaseAt w f i (getD nx i 0)) i (taskIn w i) ++ rest (i + 1)) e
+  rest-done i h d = rest-at i h ∙ train-none _ _ _ _ _ _ (omega arith)
 
   module _ (i : ℕ) (h : i < m) (l : getD nx i 0 < getD c i 0) where
     left : rest i ≡ train (suc (getD c i 0 - getD nx i 0 - 1)) (getD nx i 0) (releaseAt w f i (getD nx i 0)) i (taskIn w i) ++ rest (i + 1)
@@ -92,14 +54,10 @@ module _ (w f c nx : List ℕ) (t m : ℕ) where
         rest-at i h ∙ ap (λ (n : ℕ). train n (getD nx i 0) (releaseAt w f i (getD nx i 0)) i (taskIn w i) ++ rest (i + 1)) e
 
     pick-left : (s : ℕ) → pick s (rest i) ≡ pick s (head i ∷ rest (i + 1))
-    pick-left s =
-        ap (pick s) left
-        ∙ pick-train s (getD c i 0 - getD nx i 0 - 1) (getD nx i 0) (releaseAt w f i (getD nx i 0)) i (taskIn w i) (rest (i + 1))
+    pick-left s = ap (pick s) left ∙ pick-train s _ _ _ _ (taskIn w i) _
 
     ready-left : ready t (rest i) ≡ ready t (head i ∷ rest (i + 1))
-    ready-left =
-        ap (ready t) left
-        ∙ ready-train t (getD c i 0 - getD nx i 0 - 1) (getD nx i 0) (releaseAt w f i (getD nx i 0)) i (taskIn w i) (rest (i + 1))
+    ready-left = ap (ready t) left ∙ ready-train t _ _ _ _ (taskIn w i) _
 
   -- ---- the walk's end, where there is a job
 
@@ -155,10 +113,8 @@ module _ (w f c nx : List ℕ) (t m : ℕ) where
     -- it goes before the others
     pub best-new : a ≤ x .start → (x .start ≤ a → r + v ≤ x .due) → Best w f c nx t m (i + 1) x
         → Best w f c nx t m i (record { task = i; start = a; due = r + v })
-    unfolding pick
     best-new p q (nobody e g) =
-        new (ap (λ (js : List Job). ready t (head i ∷ js)) e ∙ ready-one t (head i) ∙ omega arith)
-        (pick-one a (head i) (rest (i + 1)) (omega arith) (ap (pick a) e))
+        new (ready-one t (head i) (rest (i + 1)) e ∙ omega arith) (pick-one a (head i) (rest (i + 1)) (omega arith) (pick-nobody a (rest (i + 1)) e))
     best-new p q (somebody ch) =
         new (ready-more t (x .start) (head i) (head (x .task)) (rest (i + 1)) (ch .picked) ∙ omega (arith, ch .starts))
         (split (x .start) a
@@ -167,7 +123,8 @@ module _ (w f c nx : List ℕ) (t m : ℕ) where
         pick-come a (head i) (rest (i + 1)) (omega arith)
         ∙ ap (λ (z : ℕ). sooner (head i) (pick z (rest (i + 1)))) (sym s)
         ∙ ap (sooner (head i)) (ch .picked)
-        ∙ sooner-no (head (x .task)) (head i) (before-no (head (x .task)) (head i) (omega (arith, q g, ch .due-then)) (λ k. omega (arith, ch .from))))
+        ∙ sooner-no (head (x .task)) (head i)
+        (ahead-first (head i) (head (x .task)) (record { deadline = omega (arith, q g, ch .due-then); task = λ k. omega (arith, ch .from) })))
         (λ g. pick-one a (head i) (rest (i + 1)) (omega arith) (not-yet t a (rest (i + 1)) (omega arith) (omega (arith, ch .starts)))))
 
     -- it does not
@@ -183,5 +140,5 @@ module _ (w f c nx : List ℕ) (t m : ℕ) where
         (λ g.
         pick-come (x .start) (head i) (rest (i + 1)) (omega arith)
         ∙ ap (sooner (head i)) (ch .picked)
-        ∙ sooner-yes (head (x .task)) (head i) (before-yes (head (x .task)) (head i) (omega (arith, q g, ch .due-then)) (λ k. absurd (omega (arith, q g, ch .due-then)))))
+        ∙ sooner-yes (head (x .task)) (head i) (goes-before (head (x .task)) (head i) (omega (arith, q g, ch .due-then)) (λ k. absurd (omega (arith, q g, ch .due-then)))))
         (λ g. pick-not (x .start) (head i) (rest (i + 1)) (omega (arith, ready-after t (rest (i + 1)), ch .starts)) ∙ ch .picked))

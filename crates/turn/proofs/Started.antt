@@ -1,28 +1,20 @@
--- The number of the next job of each task stands for the list of the jobs that are not started.
+-- Once the next job has started, its counter stands for the jobs that are left.
 use mathlib.Core.Path.{_≡_, refl, sym, ap, ap₂, _∙_}
 use Prim.Native.Nat.{ℕ, zero, suc, _+_, _-_, _*_, _≤_, _<_}
-use native.Mathlib.Nat.{suc-mul, zero-mul}
+use native.Mathlib.Nat.{suc-mul}
 use native.Mathlib.Numerals.{add-one}
 use native.Mathlib.Omega.{arith}
 use mathlib.Core.List.{List, _∷_, _++_}
 use mathlib.Core.Option.{some}
-use lib.ListN.{length, getD, set, replicate, getD-replicate}
+use lib.ListN.{length, getD, set}
 use lib.Seq.{getD-set-same, getD-set-other}
-use Rattle.rules.specs.Task.{tasksOf}
 use Rattle.rules.specs.Dispatch.{Job, Row, pick, without, ready, rows}
-use Rattle.rules.specs.Jobs.{train, trains}
-use Rattle.rules.specs.Table.{taskIn, tasksFrom}
-use Rattle.rules.proofs.Tables.{tasks-are}
-use Rattle.dispatch.specs.declared.Turn.{Turn}
-use Rattle.dispatch.specs.Plan.{planned}
-use Rattle.dispatch.specs.Counters.{releaseAt, jobAt, restFrom, Chosen}
-use Rattle.dispatch.proofs.Order.{split}
-use Rattle.dispatch.proofs.Picks.{shorter, rows-step}
-use Rattle.dispatch.proofs.Trains.{without-train, without-head}
-
--- no job is started
-abbrev pub none-started : List ℕ
-none-started = replicate 64 0
+use Rattle.rules.specs.Jobs.{train}
+use Rattle.rules.specs.Table.{taskIn}
+use Rattle.rules.proofs.Booleans.{split}
+use Rattle.rules.proofs.Choosing.{without-train, without-head, rows-step, one-less}
+use Rattle.turn.specs.declared.Turn.{Turn}
+use Rattle.turn.specs.Counters.{releaseAt, jobAt, jobsAt, restFrom, Chosen}
 
 -- the numbers after a turn of task b
 abbrev pub moved : List ℕ → ℕ → List ℕ
@@ -33,38 +25,18 @@ abbrev pub rowOf : List ℕ → List ℕ → List ℕ → Turn → Row
 rowOf w f nx x = record { job = jobAt w f (x .task) (getD nx (x .task) 0); start = x .start }
 
 module _ (w f c : List ℕ) where
-  -- of task k the jobs from number q on
-  abbrev tail : ℕ → ℕ → List Job
-  tail k q = train (getD c k 0 - q) q (releaseAt w f k q) k (taskIn w k)
-
-  -- ---- before the first row
-
-  fresh : (k : ℕ) → k < 64 → tail k (getD none-started k 0) ≡ train (getD c k 0) 0 (getD f k 0) k (taskIn w k)
-  fresh k h =
-      let a : getD c k 0 - 0 ≡ getD c k 0 = omega arith in
-      let b : releaseAt w f k 0 ≡ getD f k 0 = omega (arith, zero-mul (getD w (4 * k + 2) 0)) in
-      ap (tail k) (getD-replicate 64 k 0 0 h) ∙ ap₂ (λ (n r : ℕ). train n 0 r k (taskIn w k)) a b
-
-  fresh-from : (n k : ℕ) → k + n ≤ 64 → restFrom w f c none-started n k ≡ trains (planned f c) k (tasksFrom w n k)
-  unfolding restFrom trains tasksFrom
-  fresh-from zero k h = refl
-  fresh-from (suc n) k h = ap₂ (λ (a b : List Job). a ++ b) (fresh k (omega arith)) (fresh-from n (suc k) (omega arith))
-
-  pub begin : (m : ℕ) → m ≤ 64 → length w ≡ 4 * m → restFrom w f c none-started m 0 ≡ trains (planned f c) 0 (tasksOf w)
-  begin m h e = rw (tasks-are w m e) (fresh-from m 0 (omega arith))
-
   -- ---- the next job of task b goes
 
   same-rest : (nx : List ℕ) (b v n k : ℕ) → b < k → restFrom w f c (set nx b v) n k ≡ restFrom w f c nx n k
   unfolding restFrom
   same-rest nx b v zero k h = refl
   same-rest nx b v (suc n) k h =
-      ap₂ (λ (q : ℕ) (l : List Job). tail k q ++ l) (getD-set-other nx b k v 0 (λ e. omega arith)) (same-rest nx b v n (suc k) (omega arith))
+      ap₂ (λ (q : ℕ) (l : List Job). jobsAt w f c k q ++ l) (getD-set-other nx b k v 0 (λ e. omega arith)) (same-rest nx b v n (suc k) (omega arith))
 
-  tail-next : (k q : ℕ) (js : List Job) → q < getD c k 0 → without (jobAt w f k q) (tail k q ++ js) ≡ tail k (q + 1) ++ js
+  tail-next : (k q : ℕ) (js : List Job) → q < getD c k 0 → without (jobAt w f k q) (jobsAt w f c k q ++ js) ≡ jobsAt w f c k (q + 1) ++ js
   tail-next k q js l =
       let e : getD c k 0 - q ≡ suc (getD c k 0 - (q + 1)) = omega arith in
-      let r : releaseAt w f k q + getD w (4 * k + 2) 0 ≡ releaseAt w f k (q + 1) = omega (arith, ap (λ (x : ℕ). x * getD w (4 * k + 2) 0) (add-one q), suc-mul q (getD w (4 * k + 2) 0)) in
+      let r : releaseAt w f k q + taskIn w k .T ≡ releaseAt w f k (q + 1) = omega (arith, ap (λ (x : ℕ). x * taskIn w k .T) (add-one q), suc-mul q (taskIn w k .T)) in
       ap (λ (n : ℕ). without (jobAt w f k q) (train n q (releaseAt w f k q) k (taskIn w k) ++ js)) e
       ∙ without-head (getD c k 0 - (q + 1)) q (releaseAt w f k q) k (taskIn w k) js
       ∙ ap₂ (λ (p r : ℕ). train (getD c k 0 - (q + 1)) p r k (taskIn w k) ++ js) (sym (add-one q)) r
@@ -81,17 +53,17 @@ module _ (w f c : List ℕ) where
         let e : k ≡ b = omega arith in
         rw e
         (tail-next b q (restFrom w f c nx n (suc b)) l
-        ∙ ap₂ (λ (p : ℕ) (js : List Job). tail b p ++ js) (sym (getD-set-same nx b (q + 1) 0 g)) (sym (same-rest nx b (q + 1) n (suc b) (omega arith)))))
+        ∙ ap₂ (λ (p : ℕ) (js : List Job). jobsAt w f c b p ++ js) (sym (getD-set-same nx b (q + 1) 0 g)) (sym (same-rest nx b (q + 1) n (suc b) (omega arith)))))
         (λ kb′.
         without-train (jobAt w f b q) (getD c k 0 - getD nx k 0) (getD nx k 0) (releaseAt w f k (getD nx k 0)) k (taskIn w k) (restFrom w f c nx n (suc k)) (λ e. omega arith)
-        ∙ ap₂ (λ (p : ℕ) (js : List Job). tail k p ++ js) (sym (getD-set-other nx b k (q + 1) 0 (λ e. omega arith)))
+        ∙ ap₂ (λ (p : ℕ) (js : List Job). jobsAt w f c k p ++ js) (sym (getD-set-other nx b k (q + 1) 0 (λ e. omega arith)))
         (without-next n (suc k) (omega arith) (omega arith)))
 
   -- ---- one turn of the loop is one row
 
   pub record Steps (nx : List ℕ) (m t p : ℕ) (x : Turn) : Type 0 where
     pub row : rows (suc p) t (restFrom w f c nx m 0)
-        ≡ rowOf w f nx x ∷ rows p (x .start + getD w (4 * x .task) 0) (restFrom w f c (moved nx (x .task)) m 0)
+        ≡ rowOf w f nx x ∷ rows p (x .start + taskIn w (x .task) .C) (restFrom w f c (moved nx (x .task)) m 0)
     pub fewer : length (restFrom w f c (moved nx (x .task)) m 0) ≡ p
 
   pub step : (nx : List ℕ) (m t p : ℕ) (x : Turn) → m ≤ length nx → length (restFrom w f c nx m 0) ≡ suc p → Chosen w f c nx t m 0 x → Steps nx m t p x
@@ -106,6 +78,6 @@ module _ (w f c : List ℕ) where
       record {
         row =
             rows-step p t (x .start) js (rowOf w f nx x .job) er ep
-            ∙ ap (λ (l : List Job). rowOf w f nx x ∷ rows p (x .start + getD w (4 * x .task) 0) l) ew;
-        fewer = omega (arith, shorter (x .start) js (rowOf w f nx x .job) ep, ap length ew);
+            ∙ ap (λ (l : List Job). rowOf w f nx x ∷ rows p (x .start + taskIn w (x .task) .C) l) ew;
+        fewer = omega (arith, one-less (x .start) js (rowOf w f nx x .job) ep, ap length ew);
       }

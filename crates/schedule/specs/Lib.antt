@@ -1,2 +1,0 @@
--- What the two arrays of the concrete schedule hold.
-pub mod Arrays

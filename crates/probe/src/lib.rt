@@ -9,13 +9,16 @@ ghost use Rattle.rules.specs.Told.{writeTold, scheduleTold, patternTold};
 ghost use Rattle.told.specs.Sayings.{readProbed, verdictProbed};
 ghost use Rattle.probe.specs.Probe.{Probes, byRoom};
 
+// How many words an out must have.
+const ROOM: usize = 4;
+
 // The reader: 0 with the task count and the bytes used.
 #[no_mangle]
 pub extern "C" fn probe_read(text: &[u8], table: &mut [u32], out: &mut [u64]) -> u32
     ensures told { λ n. ⌜ Probes (readProbed (readAnswer (now (text .entry)) (now (table .entry))) (length (now (text .entry)) - length (readRest (now (text .entry)) (now (table .entry))))) (now (out .entry)) n (now (out .exit)) ⌝ }
     ensures filled { λ _. ⌜ now (table .exit) ≡ byRoom (now (out .entry)) (now (table .entry)) (readTable (now (text .entry)) (now (table .entry))) ⌝ }
 {
-    if out.len() < 4 {
+    if out.len() < ROOM {
         return 999;
     }
     let mut code: u32 = 0;
@@ -31,7 +34,7 @@ pub extern "C" fn probe_write(table: &[u32], text: &mut [u8], out: &mut [u64]) -
     ensures told { λ n. ⌜ Probes (writeTold (writeAnswer (now (table .entry)) (now (text .entry)))) (now (out .entry)) n (now (out .exit)) ⌝ }
     ensures filled { λ _. ⌜ now (text .exit) ≡ byRoom (now (out .entry)) (now (text .entry)) (writeBuffer (now (table .entry)) (now (text .entry))) ⌝ }
 {
-    if out.len() < 4 {
+    if out.len() < ROOM {
         return 999;
     }
     told::tell(out, told::say_write(writer::write(table, text)))
@@ -43,7 +46,7 @@ pub extern "C" fn probe_schedule(table: &[u32], z: u32, rows: &mut [u64], out: &
     ensures told { λ n. ⌜ Probes (scheduleTold (scheduleAnswer (now (table .entry)) z (now (rows .entry)))) (now (out .entry)) n (now (out .exit)) ⌝ }
     ensures filled { λ _. ⌜ now (rows .exit) ≡ byRoom (now (out .entry)) (now (rows .entry)) (scheduleBuffer (now (table .entry)) z (now (rows .entry))) ⌝ }
 {
-    if out.len() < 4 {
+    if out.len() < ROOM {
         return 999;
     }
     told::tell(out, told::say_schedule(schedule::schedule(table, z, rows)))
@@ -54,7 +57,7 @@ pub extern "C" fn probe_schedule(table: &[u32], z: u32, rows: &mut [u64], out: &
 pub extern "C" fn probe_verdict(table: &[u32], out: &mut [u64]) -> u32
     ensures { λ n. ⌜ Probes (verdictProbed (verdictAnswer (now (table .entry)))) (now (out .entry)) n (now (out .exit)) ⌝ }
 {
-    if out.len() < 4 {
+    if out.len() < ROOM {
         return 999;
     }
     told::tell(out, told::say_verdict(verdict::verdict(table)))
@@ -66,7 +69,7 @@ pub extern "C" fn probe_pattern(table: &[u32], rows: &mut [u64], out: &mut [u64]
     ensures told { λ n. ⌜ Probes (patternTold (patternAnswer (now (table .entry)) (now (rows .entry)))) (now (out .entry)) n (now (out .exit)) ⌝ }
     ensures filled { λ _. ⌜ now (rows .exit) ≡ byRoom (now (out .entry)) (now (rows .entry)) (patternBuffer (now (table .entry)) (now (rows .entry))) ⌝ }
 {
-    if out.len() < 4 {
+    if out.len() < ROOM {
         return 999;
     }
     told::tell(out, told::say_pattern(pattern::pattern(table, rows)))

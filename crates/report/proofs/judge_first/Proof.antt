@@ -32,14 +32,14 @@ read-answer-requires c κs = search needs
 enum-known-answer : tie.Need-enum-known-answer
 enum-known-answer c = search needs
 
-cast-table : tie.Need-cast-table
-cast-table c = search needs
+cast-words : tie.Need-cast-words
+cast-words c = search needs
 
-mul-table : tie.Need-mul-table
-mul-table c = search needs
+mul-words : tie.Need-mul-words
+mul-words c = search needs
 
-array-share-prefix-table : tie.Need-array-share-prefix-table
-array-share-prefix-table c = in-table c
+array-share-prefix-words : tie.Need-array-share-prefix-words
+array-share-prefix-words c = in-table c
 
 slice-aggregate-verdict : tie.Need-slice-aggregate-verdict
 slice-aggregate-verdict c = sym (length-take-le _ _ (in-table (c .before)))
@@ -74,9 +74,9 @@ judge-first-spec =
     read-requires
     read-answer-requires
     enum-known-answer
-    cast-table
-    mul-table
-    array-share-prefix-table
+    cast-words
+    mul-words
+    array-share-prefix-words
     slice-aggregate-verdict
     verdict-requires
     enum-known-answer-2

@@ -1,0 +1,3 @@
+-- Laws of the probes: that room decides, and the bytes that a reading used.
+pub mod Rooms
+mod Used

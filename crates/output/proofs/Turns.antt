@@ -3,19 +3,27 @@ use mathlib.Core.Path.{_≡_, refl, sym, ap, ap₂, _∙_}
 use Prim.Native.Nat.{ℕ, suc, _+_, _-_, _*_, _≤_, _<_}
 use native.Mathlib.Numerals.{add-one}
 use native.Mathlib.Omega.{arith}
-use mathlib.Core.List.{List, [], _++_, append-assoc}
+use mathlib.Core.List.{List, [], _∷_, _++_, append-assoc}
 use lib.ListN.{length, take, drop, length-append, length-drop}
 use lib.Seq.{drop-drop}
 use Rattle.rules.specs.Numbers.{inputMost}
+use Rattle.rules.specs.Text.{bytes}
 use Rattle.rules.specs.Report.{setLines, setRest, setsLines, output}
 use Rattle.rules.specs.Calls.{Reports}
 use Rattle.rules.specs.declared.ReportAnswer.{ReportAnswer}
 use Rattle.rules.specs.declared.ReportAnswer.the-variants.{Reported}
 use Rattle.rules.proofs.Slices.{part, lent-end, end-back}
 use Rattle.rules.proofs.Calls.{report-lines}
-use Rattle.rules.proofs.Printed.{rest-end, sets-last, sets-more, output-sets}
+use Rattle.rules.proofs.Printed.{rest-end, sets-last, sets-more, output-long, output-sets}
 use Rattle.rules.proofs.Lengths.{rest-fewer, lines-most}
+use Rattle.print.specs.Place.{Puts}
 use Rattle.output.specs.Output.{outputMost, Prints}
+
+-- an input that is too long: its one line stands at the start
+pub too-long : (input old : List ℕ) {size : ℕ} {exit : List ℕ} → inputMost < length input → Puts old 0 (bytes "toolong" ++ (10 ∷ [])) size exit → Prints input old size exit
+too-long input old h p =
+    let e = output-long input h in
+    record { says = p .says ∙ ap length (sym e); leaves = p .leaves ∙ ap (λ (l : List ℕ). l ++ drop (length l) old) (sym e) }
 
 -- the lines of the sets before number stand at the start of out
 pub record SoFar (input old out : List ℕ) (number left at : ℕ) : Type 0 where

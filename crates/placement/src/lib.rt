@@ -1,17 +1,18 @@
 // The placement pass's call, for C: one number for the first set of a text.
 ghost use mathlib.Core.Path.{_≡_};
+ghost use Rattle.rules.specs.Told.{numberTold, verdictTold};
 ghost use Rattle.rules.specs.Answers.{checkNumber};
-ghost use Rattle.placement.specs.Placement.{refusedNumber};
 use rules::ReadAnswer;
 use rules::VerdictAnswer;
+use table::TABLE_MOST;
 
-// The number of the refusal in an answer.
-fn refused_number(answer: VerdictAnswer) -> u32
-    ensures { λ n. ⌜ n ≡ refusedNumber answer ⌝ }
+// The number of an answer.
+fn answer_number(answer: VerdictAnswer) -> u32
+    ensures { λ n. ⌜ n ≡ numberTold (verdictTold answer) ⌝ }
 {
     match answer {
+        VerdictAnswer::Judged(v) => numbers::verdict_number(v),
         VerdictAnswer::Refused(r) => numbers::refusal_number(r),
-        VerdictAnswer::Judged(_) => 0,
     }
 }
 
@@ -20,18 +21,14 @@ fn refused_number(answer: VerdictAnswer) -> u32
 pub extern "C" fn tile_check(text: &[u8]) -> u32
     ensures { λ n. ⌜ n ≡ checkNumber (now (text .entry)) ⌝ }
 {
-    let mut words = [0u32; 256];
+    let mut words = [0u32; TABLE_MOST];
     let mut code: u32 = 0;
     let mut number: u32 = 0;
-    text::read(text, &mut words, &mut code, &mut number);
-    let answer = text::read_answer(code, number);
+    reader::read(text, &mut words, &mut code, &mut number);
+    let answer = reader::read_answer(code, number);
     let ReadAnswer::Set(n) = answer else {
         return code;
     };
     let m = 4 * n as usize;
-    let judged = verdict::verdict(&words[..m]);
-    let VerdictAnswer::Judged(v) = judged else {
-        return refused_number(judged);
-    };
-    numbers::verdict_number(v)
+    answer_number(verdict::verdict(&words[..m]))
 }

@@ -1,2 +1,3 @@
--- Laws of what is told.
-pub mod Telling
+-- Laws of the probes: that room decides, and the bytes that a reading used.
+pub mod Rooms
+mod Used

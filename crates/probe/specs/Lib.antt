@@ -1,2 +1,2 @@
--- What the probe tells.
+-- What the probe promises.
 pub mod Probe

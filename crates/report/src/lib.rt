@@ -15,6 +15,7 @@ use rules::Refusal;
 use rules::ReportAnswer;
 use rules::Verdict;
 use rules::VerdictAnswer;
+use table::TABLE_MOST;
 
 // The most bytes that the lines for a set can take.
 pub const LINES_MOST: usize = 67;
@@ -114,14 +115,14 @@ fn put_set(out: &mut [u8], at: usize, number: u32, answer: VerdictAnswer) -> usi
 fn judge_first(text: &[u8]) -> First
     ensures { λ r. ⌜ Judges (now (text .entry)) r ⌝ }
 {
-    let mut table = [0u32; 256];
+    let mut words = [0u32; TABLE_MOST];
     let mut code: u32 = 0;
     let mut number: u32 = 0;
-    let rest = reader::read(text, &mut table, &mut code, &mut number);
-    let read = reader::read_answer(code, number);
-    match read {
+    let rest = reader::read(text, &mut words, &mut code, &mut number);
+    let answer = reader::read_answer(code, number);
+    match answer {
         ReadAnswer::Set(n) => First {
-            answer: verdict::verdict(&table[..4 * n as usize]),
+            answer: verdict::verdict(&words[..4 * n as usize]),
             left: rest.len(),
         },
         ReadAnswer::Refused(r) => First {

@@ -1,80 +1,130 @@
-// The program: reads standard input and prints the report of each set.
-ghost use Prim.Native.Nat.{_≤_};
+// The program reads standard input and writes what `output` makes of it.
+ghost use Prim.Native.Nat.{_≤_, _<_};
 ghost use lib.ListN.{length};
+ghost use Rattle.rules.specs.Numbers.{inputMost};
 ghost use Rattle.tilecheck.specs.Input.{Within};
 use libc::STDERR_FILENO;
 use libc::STDIN_FILENO;
 use libc::STDOUT_FILENO;
-use rules::ReportAnswer;
+use output::INPUT_MOST;
+use output::OUTPUT_MOST;
 
-// What was read of standard input: all of it, so many bytes; or it fills the buffer; or a read failed.
+// How often in a row a call that moved nothing is tried again.
+const TRIES: u32 = 10000000;
+
+// What was read of standard input: all of it, so many bytes; or it fills the buffer; or a read failed after so many.
 enum Input {
     Whole(usize),
     TooLong,
-    Failed,
+    Failed(usize),
 }
 
-// Standard input is read to its end, however many reads that takes.
+// Whether the call that just failed is worth another try: it was interrupted, or it would have had to wait. Then others may run first.
+fn may_try_again() -> bool {
+    let why = os::errno();
+    if why == libc::EINTR {
+        return true;
+    }
+    if why == libc::EAGAIN {
+        libc::sched_yield();
+        return true;
+    }
+    false
+}
+
+// Standard input is read to its end, however many reads that takes. The buffer is longer than the longest input, so one that fills it is too long.
 fn read_input(buf: &mut [u8]) -> Input
+    requires { ⌜ inputMost < length (now buf) ⌝ }
     ensures { λ r. ⌜ Within r (length (now (buf .exit))) ⌝ }
 {
-    let mut at = 0;
+    let mut at: usize = 0;
+    let mut tries = TRIES;
     while at < buf.len() {
         let got = libc::read(STDIN_FILENO, &mut buf[at..]);
-        if got < 0 {
-            return Input::Failed;
-        }
         let more = io::count(got, &buf[at..]);
-        if more == 0 {
-            return Input::Whole(at);
+        if more > 0 {
+            at += more;
+            tries = TRIES;
+        } else {
+            if got == 0 {
+                return Input::Whole(at);
+            }
+            if tries == 0 {
+                return Input::Failed(at);
+            }
+            let again = may_try_again();
+            if !again {
+                return Input::Failed(at);
+            }
+            tries -= 1;
         }
-        at += more;
     }
     Input::TooLong
 }
 
-// Each set's lines are printed by one write. False where a write failed.
-fn print_sets(text: &[u8]) -> bool
-    requires { ⌜ length (now text) ≤ 32768 ⌝ }
+// How many of the bytes reached standard output, however many writes that takes.
+fn write_output(bytes: &[u8]) -> usize
+    ensures { λ r. ⌜ r ≤ length (now (bytes .entry)) ⌝ }
 {
-    let mut page = [0u8; 128];
-    let mut number: u32 = 1;
-    let mut left = text.len();
-    loop {
-        let from = text.len() - left;
-        let answer = report::report(number, &text[from..], &mut page);
-        // The page has room for any set, so that no report is refused.
-        let ReportAnswer::Reported { length, left: rest } = answer else {
-            return true;
-        };
-        let size = length as usize;
-        let wrote = io::write_all(STDOUT_FILENO, &page[..size]);
-        if !wrote {
-            return false;
+    let mut at: usize = 0;
+    let mut tries = TRIES;
+    while at < bytes.len() {
+        let got = libc::write(STDOUT_FILENO, &bytes[at..]);
+        let more = io::count(got, &bytes[at..]);
+        if more > 0 {
+            at += more;
+            tries = TRIES;
+        } else {
+            if tries == 0 {
+                return at;
+            }
+            let again = may_try_again();
+            if !again {
+                return at;
+            }
+            tries -= 1;
         }
-        if rest == 0 {
-            return true;
-        }
-        left = rest;
-        number += 1;
     }
+    at
+}
+
+// A number on standard error.
+fn tell_count(n: usize) {
+    io::print_decimal(STDERR_FILENO, n as u64);
+}
+
+// A read that failed is told on standard error.
+fn tell_read(read: usize) {
+    io::write_all(STDERR_FILENO, b"tilecheck: cannot read standard input: ");
+    tell_count(read);
+    io::write_all(STDERR_FILENO, b" bytes were read, nothing was judged\n");
 }
 
 // A write that failed is told on standard error.
-fn tell(wrote: bool) {
-    if !wrote {
-        io::write_all(STDERR_FILENO, b"tilecheck: cannot write standard output\n");
+fn tell_write(written: usize, all: usize) {
+    io::write_all(STDERR_FILENO, b"tilecheck: cannot write standard output: ");
+    tell_count(written);
+    io::write_all(STDERR_FILENO, b" of ");
+    tell_count(all);
+    io::write_all(STDERR_FILENO, b" bytes were written\n");
+}
+
+// What an input gives is printed.
+fn print_output(input: &[u8]) {
+    let mut out = [0u8; OUTPUT_MOST];
+    let all = output::output(input, &mut out);
+    let written = write_output(&out[..all]);
+    if written < all {
+        tell_write(written, all);
     }
 }
 
 fn main() {
-    let mut input = [0u8; 32769];
+    let mut input = [0u8; INPUT_MOST + 1];
     let read = read_input(&mut input);
     match read {
-        Input::Whole(n) => tell(print_sets(&input[..n])),
-        Input::TooLong => tell(io::write_all(STDOUT_FILENO, b"toolong\n")),
-        Input::Failed => {
-            io::write_all(STDERR_FILENO, b"tilecheck: cannot read standard input\n");
-        }
+        Input::Whole(n) => print_output(&input[..n]),
+        Input::TooLong => print_output(&input),
+        Input::Failed(n) => tell_read(n),
     }
 }

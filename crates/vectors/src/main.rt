@@ -1,4 +1,4 @@
-// Executes the sets of the scope of work and compares: each line has a set, what came out, and whether that is right.
+// Executes the sets of document 01 and compares: each line has a set, what came out, and whether that is right.
 // The probe tells the answer of each call as numbers.
 ghost use mathlib.Core.Path.{_≡_};
 ghost use Prim.Native.Nat.{_≤_};
@@ -94,11 +94,11 @@ fn same(a: &[u64], b: &[u64]) -> bool
 // A task as (C,D,T).
 fn print_task(c: u32, d: u32, t: u32) {
     io::write_all(STDOUT_FILENO, b"(");
-    io::print_decimal(STDOUT_FILENO, table::wide(c));
+    io::print_decimal(STDOUT_FILENO, arith::wide(c));
     io::write_all(STDOUT_FILENO, b",");
-    io::print_decimal(STDOUT_FILENO, table::wide(d));
+    io::print_decimal(STDOUT_FILENO, arith::wide(d));
     io::write_all(STDOUT_FILENO, b",");
-    io::print_decimal(STDOUT_FILENO, table::wide(t));
+    io::print_decimal(STDOUT_FILENO, arith::wide(t));
     io::write_all(STDOUT_FILENO, b") ");
 }
 
@@ -146,7 +146,7 @@ fn length_of(second: u32) -> usize
 // What the C call says of a table, by way of its text; 0, which it never says, where the table is not written.
 fn check_text(words: &[u32]) -> u32 {
     let mut text = [0u8; 256];
-    let answer = text::write(words, &mut text);
+    let answer = writer::write(words, &mut text);
     let WriteAnswer::Written(n) = answer else {
         return 0;
     };
@@ -160,8 +160,8 @@ fn check_text(words: &[u32]) -> u32 {
 // The verdict on a set: its number and values, and the number of the C call.
 fn try_verdict(words: &[u32], expected: [u64; 3]) {
     let mut out = [0u64; 4];
-    let number = table::wide(probe::probe_verdict(words, &mut out));
-    let by_text = table::wide(check_text(words));
+    let number = arith::wide(probe::probe_verdict(words, &mut out));
+    let by_text = arith::wide(check_text(words));
     print_set(words);
     compare(
         &[number, out[0], out[1], by_text],
@@ -184,7 +184,7 @@ fn try_schedule() {
     let number = probe::probe_schedule(&SHOWN, 8, &mut rows, &mut out);
     io::write_all(STDOUT_FILENO, b"schedule ");
     print_set(&SHOWN);
-    compare(&[table::wide(number), out[0]], &[200, 3]);
+    compare(&[arith::wide(number), out[0]], &[200, 3]);
     io::write_all(STDOUT_FILENO, b"rows ");
     compare(&rows, &SCHEDULE);
 }
@@ -196,7 +196,7 @@ fn try_pattern() {
     let number = probe::probe_pattern(&SHOWN, &mut rows, &mut out);
     io::write_all(STDOUT_FILENO, b"pattern ");
     print_set(&SHOWN);
-    compare(&[table::wide(number), out[0]], &[0, 2]);
+    compare(&[arith::wide(number), out[0]], &[0, 2]);
     io::write_all(STDOUT_FILENO, b"rows ");
     compare(&rows, &PATTERN);
 }

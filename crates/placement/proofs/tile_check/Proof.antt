@@ -1,10 +1,28 @@
-use mathlib.Core.Path.{sym, ap, _∙_}
+-- `placement::tile_check` meets its contract: a reading that is refused has the refusal's number, and the table has room for every set, so the set is
+-- refused so; of a set that is read, the number is that of the answer on its words.
+use mathlib.Core.Path.{_≡_, sym, ap, _∙_}
+use Prim.Native.Nat.{ℕ, _*_, _≤_}
 use native.Mathlib.Omega.{arith}
-use Rattle.placement.specs.Placement.{refusedNumber}
-use Rattle.placement.proofs.Numbers.{unread, read-so, decided}
+use lib.ListN.{length}
+use lib.Seq.{length-take-le}
+use Rattle.rules.specs.Told.{numberTold, readTold, verdictTold}
+use Rattle.rules.specs.declared.ReadAnswer.{ReadAnswer}
+use Rattle.rules.specs.declared.VerdictAnswer.{VerdictAnswer}
+use Rattle.rules.proofs.Calls.{check-number}
+use Rattle.rules.proofs.Reading.{took-set}
+use Rattle.rules.proofs.First.{set-said, refusal-said}
 use borrow.Author.Needs.{needs}
 use Rattle.placement.proofs.tile_check.Statement.{statement}
 use Rattle.placement.proofs.tile_check.Tie as tie
+
+-- the words of a set that was read lie in the table
+in-words : (c : tie.After-known-told) → 4 * c .before .answer .given .0 .0 ≤ length (c .before .before .before .before .before .read .last .1 .0)
+in-words c =
+    let at-set = c .before in
+    let after-answer = at-set .before .before in
+    let after-read = after-answer .before .before in
+    let took = took-set _ _ _ (after-read .read .ensures .reads) (sym (after-answer .read-answer .ensures) ∙ at-set .answer .given .1) in
+    omega (arith, after-read .read .kept .1 .0, took .room)
 
 slice-aggregate-read : tie.Need-slice-aggregate-read
 slice-aggregate-read c = search needs
@@ -23,7 +41,14 @@ enum-told c = search needs
 
 returns : tie.Need-returns
 returns c =
-    unread _ (c .before .before .before .before .read .ensures) (c .before .before .read-answer .ensures) (c .enum-told .given .1) (search needs)
+    let after-answer = c .before .before in
+    let after-read = after-answer .before .before in
+    let read = after-read .read .ensures in
+    let refused = sym (after-answer .read-answer .ensures) ∙ c .enum-told .given .1 in
+    let text = after-read .before .before .before .before .before .args .text .now in
+    read .code-is
+    ∙ ap (λ (a : ReadAnswer). numberTold (readTold a)) (sym (read .reads .says) ∙ refused)
+    ∙ sym (check-number text ∙ ap (λ (a : VerdictAnswer). numberTold (verdictTold a)) (refusal-said _ _ (read .reads) _ (omega arith) refused))
 
 cast-m : tie.Need-cast-m
 cast-m c = search needs
@@ -32,44 +57,28 @@ mul-m : tie.Need-mul-m
 mul-m c = search needs
 
 array-share-prefix-words : tie.Need-array-share-prefix-words
-array-share-prefix-words c =
-    let a = c .before in
-    let t = read-so (a .before .before .before .before .read .ensures) (a .before .before .read-answer .ensures) (a .answer .given .1) in
-    omega arith
+array-share-prefix-words c = in-words c
 
 slice-aggregate-verdict : tie.Need-slice-aggregate-verdict
-slice-aggregate-verdict c =
-    let a = c .before .before in
-    let t = read-so (a .before .before .before .before .read .ensures) (a .before .before .read-answer .ensures) (a .answer .given .1) in
-    sym (t .words)
+slice-aggregate-verdict c = sym (length-take-le _ _ (in-words (c .before)))
 
 verdict-requires : tie.Need-verdict-requires
 verdict-requires c κs = search needs
 
-enum-known-judged : tie.Need-enum-known-judged
-enum-known-judged c = search needs
-
-enum-told-2 : tie.Need-enum-told-2
-enum-told-2 c = search needs
-
-refused-number-requires : tie.Need-refused-number-requires
-refused-number-requires c κs = search needs
+answer-number-requires : tie.Need-answer-number-requires
+answer-number-requires c κs = search needs
 
 returns-2 : tie.Need-returns-2
 returns-2 c =
-    let a = c .before .before .before .before .before .before in
-    let t = read-so (a .before .before .before .before .read .ensures) (a .before .before .read-answer .ensures) (a .answer .given .1) in
-    let g = c .before .enum-told2 .given .1 in
-    c .refused-number .ensures ∙ ap refusedNumber g ∙ decided _ t (c .before .before .before .verdict .ensures .0) g
-
-verdict-number-requires : tie.Need-verdict-number-requires
-verdict-number-requires c κs = search needs
-
-returns-3 : tie.Need-returns-3
-returns-3 c =
-    let a = c .before .before .before .before .before .before .before in
-    let t = read-so (a .before .before .before .before .read .ensures) (a .before .before .read-answer .ensures) (a .answer .given .1) in
-    c .verdict-number .ensures ∙ decided _ t (c .before .before .before .before .verdict .ensures .0) (c .before .before .judged .given .1)
+    let after-verdict = c .before in
+    let at-set = after-verdict .before .before .before in
+    let after-answer = at-set .before .before in
+    let after-read = after-answer .before .before in
+    let text = after-read .before .before .before .before .before .args .text .now in
+    let said = set-said _ _ (after-read .read .ensures .reads) _ (sym (after-answer .read-answer .ensures) ∙ at-set .answer .given .1) in
+    c .answer-number .ensures
+    ∙ ap (λ (a : VerdictAnswer). numberTold (verdictTold a)) (after-verdict .verdict .ensures .0 ∙ sym said)
+    ∙ sym (check-number text)
 
 pub tile-check-spec : {M : Type 1} → statement M
 tile-check-spec =
@@ -86,9 +95,5 @@ tile-check-spec =
     array-share-prefix-words
     slice-aggregate-verdict
     verdict-requires
-    enum-known-judged
-    enum-told-2
-    refused-number-requires
-    returns-2
-    verdict-number-requires
-    returns-3)
+    answer-number-requires
+    returns-2)

@@ -33,7 +33,8 @@ slice-aggregate-put-line c = search needs
 put-line-requires : tie.Need-put-line-requires
 put-line-requires c κs =
     let after-word = c .before .before .before .before in
-    first-fits (after-word .put-word-line .last .0) (after-word .put-word-line .result) _ _ (room after-word)
+    let at-start = after-word .before .before .before .before .before in
+    first-fits (after-word .put-word-line .last .0) (after-word .put-word-line .result) (line (bytes "length=") (digits (at-start .args .least))) _ (room after-word)
 
 put-blocker-requires : tie.Need-put-blocker-requires
 put-blocker-requires c κs =

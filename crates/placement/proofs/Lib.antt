@@ -1,2 +1,0 @@
--- The number of the call, and that there is one.
-pub mod Numbers

@@ -1,2 +1,0 @@
--- What the call for C promises.
-pub mod Placement

@@ -1,0 +1,2 @@
+-- What is told of each answer.
+pub mod Sayings

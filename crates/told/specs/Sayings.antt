@@ -1,0 +1,50 @@
+-- What is told of each answer: the rules' number and values, with two values that are the probe's own.
+use mathlib.Core.Path.{_≡_}
+use Prim.Native.Nat.{ℕ}
+use mathlib.Core.List.{List, [], _∷_, _++_}
+use lib.ListN.{length, drop}
+use Rattle.rules.specs.Told.{Told, _with_, numberTold, valuesTold, readTold, judgedTold, verdictTold}
+use Rattle.rules.specs.declared.Blocker.{Blocker}
+use Rattle.rules.specs.declared.Verdict.{Verdict}
+use Rattle.rules.specs.declared.ReadAnswer.{ReadAnswer}
+use Rattle.rules.specs.declared.VerdictAnswer.{VerdictAnswer}
+use Rattle.told.specs.declared.Saying.{Saying}
+use Rattle.told.specs.declared.Saying.the-variants.{Bare, One, Two, Four}
+
+-- a number with no, one, two or four values
+abbrev pub said : Saying → Told
+said (Bare n) = n with []
+said (One n a) = n with (a ∷ [])
+said (Two n a b) = n with (a ∷ b ∷ [])
+said (Four n a b c d) = n with (a ∷ b ∷ c ∷ d ∷ [])
+
+-- a value after those that are told
+infixl 15 _also_
+abbrev pub _also_ : Told → ℕ → Told
+t also v = numberTold t with (valuesTold t ++ (v ∷ []))
+
+-- the reader: the bytes used, beside the task count
+abbrev pub readProbed : ReadAnswer → ℕ → Told
+readProbed (ReadAnswer.Set n) used = readTold (ReadAnswer.Set n) also used
+readProbed (ReadAnswer.Refused r) used = readTold (ReadAnswer.Refused r)
+
+-- a "misses": 2^64 - 1 for the blocker where there is none
+abbrev pub missesProbed : ℕ → Blocker → Told
+missesProbed L (Blocker.Task b) = judgedTold (Verdict.Misses L (Blocker.Task b))
+missesProbed L Blocker.Nobody = judgedTold (Verdict.Misses L Blocker.Nobody) also 18446744073709551615
+
+-- the verdict call
+abbrev pub verdictProbed : VerdictAnswer → Told
+verdictProbed (VerdictAnswer.Judged (Verdict.Meets σ)) = judgedTold (Verdict.Meets σ)
+verdictProbed (VerdictAnswer.Judged (Verdict.Misses L b)) = missesProbed L b
+verdictProbed (VerdictAnswer.Judged Verdict.TooFar) = judgedTold Verdict.TooFar
+verdictProbed (VerdictAnswer.Refused r) = verdictTold (VerdictAnswer.Refused r)
+
+-- a buffer with the values at the start, and beyond them the same
+abbrev pub valuesIn : Told → List ℕ → List ℕ
+valuesIn t old = valuesTold t ++ drop (length (valuesTold t)) old
+
+-- something is told: the number returned, and `out` at exit
+pub record Gives (told : Told) (out : List ℕ) (number : ℕ) (exit : List ℕ) : Type 0 where
+  pub says : number ≡ numberTold told
+  pub leaves : exit ≡ valuesIn told out

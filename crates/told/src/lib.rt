@@ -1,0 +1,151 @@
+// Each answer told as a number with values, in code; rules/specs/Told.antt has the same as definitions. For the probe.
+ghost use mathlib.Core.Path.{_≡_};
+ghost use Prim.Native.Nat.{_≤_};
+ghost use mathlib.Core.List.{_++_};
+ghost use lib.ListN.{length, drop};
+ghost use Rattle.rules.specs.Told.{refusalTold, writeTold, scheduleTold, patternTold};
+ghost use Rattle.told.specs.Sayings.{said, Gives, readProbed, missesProbed, verdictProbed};
+use rules::Blocker;
+use rules::Carried;
+use rules::PatternAnswer;
+use rules::ReadAnswer;
+use rules::Refusal;
+use rules::ScheduleAnswer;
+use rules::Verdict;
+use rules::VerdictAnswer;
+use rules::WriteAnswer;
+
+// A number with no, one, two or four values.
+pub enum Saying {
+    Bare(u32),
+    One(u32, u64),
+    Two(u32, u64, u64),
+    Four(u32, u64, u64, u64, u64),
+}
+
+// The value for a blocker where there is none.
+const NOBODY: u64 = 0xffff_ffff_ffff_ffff;
+
+// A refusal.
+fn say_refusal(r: Refusal) -> Saying
+    ensures { λ s. ⌜ said s ≡ refusalTold r ⌝ }
+{
+    let number = numbers::refusal_number(r);
+    let carried = numbers::refusal_carries(r);
+    match carried {
+        Carried::Nothing => Saying::Bare(number),
+        Carried::Word(i) => Saying::One(number, i as u64),
+        Carried::Line(l) => Saying::One(number, l as u64),
+    }
+}
+
+// The reader's answer, and the bytes used.
+pub fn say_read(answer: ReadAnswer, used: u64) -> Saying
+    ensures { λ s. ⌜ said s ≡ readProbed answer used ⌝ }
+{
+    match answer {
+        ReadAnswer::Set(n) => Saying::Two(0, n as u64, used),
+        ReadAnswer::Refused(r) => say_refusal(r),
+    }
+}
+
+// The writer's answer.
+pub fn say_write(answer: WriteAnswer) -> Saying
+    ensures { λ s. ⌜ said s ≡ writeTold answer ⌝ }
+{
+    match answer {
+        WriteAnswer::Written(n) => Saying::One(0, n as u64),
+        WriteAnswer::Refused(r) => say_refusal(r),
+    }
+}
+
+// The schedule's answer.
+pub fn say_schedule(answer: ScheduleAnswer) -> Saying
+    ensures { λ s. ⌜ said s ≡ scheduleTold answer ⌝ }
+{
+    match answer {
+        ScheduleAnswer::OnTime(n) => Saying::One(200, n),
+        ScheduleAnswer::Late {
+            rows,
+            task,
+            job,
+            deadline,
+        } => Saying::Four(201, rows, task, job, deadline),
+        ScheduleAnswer::Refused(r) => say_refusal(r),
+    }
+}
+
+// A "misses".
+fn say_misses(length: u32, blocker: Blocker) -> Saying
+    ensures { λ s. ⌜ said s ≡ missesProbed length blocker ⌝ }
+{
+    match blocker {
+        Blocker::Task(b) => Saying::Two(101, length as u64, b as u64),
+        Blocker::Nobody => Saying::Two(101, length as u64, NOBODY),
+    }
+}
+
+// A verdict.
+fn say_judged(verdict: Verdict) -> Saying
+    ensures { λ s. ⌜ said s ≡ verdictProbed (VerdictAnswer.Judged verdict) ⌝ }
+{
+    match verdict {
+        Verdict::Meets(span) => Saying::One(100, span as u64),
+        Verdict::Misses(length, blocker) => say_misses(length, blocker),
+        Verdict::TooFar => Saying::Bare(102),
+    }
+}
+
+// The verdict call's answer.
+pub fn say_verdict(answer: VerdictAnswer) -> Saying
+    ensures { λ s. ⌜ said s ≡ verdictProbed answer ⌝ }
+{
+    match answer {
+        VerdictAnswer::Judged(v) => say_judged(v),
+        VerdictAnswer::Refused(r) => say_refusal(r),
+    }
+}
+
+// The pattern's answer.
+pub fn say_pattern(answer: PatternAnswer) -> Saying
+    ensures { λ s. ⌜ said s ≡ patternTold answer ⌝ }
+{
+    match answer {
+        PatternAnswer::Rows(n) => Saying::One(0, n),
+        PatternAnswer::Refused(r) => say_refusal(r),
+    }
+}
+
+// Values go to the start of out.
+fn put(out: &mut [u64], values: &[u64])
+    requires { ⌜ length (now values) ≤ length (now out) ⌝ }
+    ensures { λ _. ⌜ now (out .exit) ≡ now (values .entry) ++ drop (length (now (values .entry))) (now (out .entry)) ⌝ }
+{
+    let mut i: usize = 0;
+    while i < values.len() {
+        out[i] = values[i];
+        i += 1;
+    }
+}
+
+// What is said: the number is returned, the values go to the start of out.
+pub fn tell(out: &mut [u64], saying: Saying) -> u32
+    requires { ⌜ 4 ≤ length (now out) ⌝ }
+    ensures { λ n. ⌜ Gives (said saying) (now (out .entry)) n (now (out .exit)) ⌝ }
+{
+    match saying {
+        Saying::Bare(n) => n,
+        Saying::One(n, a) => {
+            put(out, &[a]);
+            n
+        }
+        Saying::Two(n, a, b) => {
+            put(out, &[a, b]);
+            n
+        }
+        Saying::Four(n, a, b, c, d) => {
+            put(out, &[a, b, c, d]);
+            n
+        }
+    }
+}

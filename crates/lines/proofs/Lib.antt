@@ -1,2 +1,2 @@
 -- Laws for the code that reads one line.
-pub mod Reading
+pub mod Searches

@@ -13,6 +13,7 @@ use lines::Number;
 use rules::ReadAnswer;
 use rules::Refusal;
 use rules::TASK_KEYS;
+use rules::TASKS_KEY;
 use table::TABLE_MOST;
 use table::TASK_MOST;
 
@@ -69,7 +70,7 @@ pub fn read_set<'a>(text: &'a [u8], table: &mut [u32], rest: &mut &'a [u8]) -> R
 {
     *rest = text;
     let mut a = text;
-    let first = lines::read_line(text, b"tasks=", &mut a);
+    let first = lines::read_line(text, &TASKS_KEY, &mut a);
     let Number::Value(n) = first else {
         return ReadAnswer::Refused(Refusal::BadLine(1));
     };

@@ -3,18 +3,12 @@ use mathlib.Core.Path.{_≡_, refl, sym, ap, ap₂, _∙_}
 use Prim.Native.Nat.{ℕ, _*_, _/_, _≤_, _<_}
 use native.Mathlib.Decide.{decLt}
 use native.Mathlib.Omega.{arith}
-use mathlib.Core.List.{List, [], _∷_, _++_}
-use mathlib.Core.Option.{Option, none, some}
-use lib.Dec.{ltb}
+use mathlib.Core.List.{List}
 use lib.ListN.{length, take, drop, length-append}
 use lib.Seq.{take-at}
-use borrow.Author.Tests.{le-ltb}
-use Rattle.rules.specs.Numbers.{taskMost, tableMost}
-use Rattle.rules.specs.Refusals.{_when_, firstOf, answering}
-use Rattle.rules.specs.Text.{Lines, took, stop, readSet, wordsRead, writeSet}
-use Rattle.rules.specs.Answers.{lineRefusal, readRefusal, readAnswer}
+use Rattle.rules.specs.Numbers.{taskMost}
+use Rattle.rules.specs.Text.{Lines, took, stop, readSet, writeSet}
 use Rattle.rules.specs.Calls.{Reads}
-use Rattle.rules.specs.declared.Refusal.{Refusal}
 use Rattle.rules.specs.declared.Refusal.the-variants.{TooShort, BadLine}
 use Rattle.rules.specs.declared.ReadAnswer.{ReadAnswer}
 use Rattle.rules.specs.declared.ReadAnswer.the-variants.{Set, Refused}
@@ -83,29 +77,6 @@ took-set text table {answer} {rest} {exit} n r e = by-ending (ending text table)
           most-tasks = omega arith;
           room = omega arith;
         }
-
--- a refusal is the one that the definitions give
-pub refused-set : (text table : List ℕ) {answer : ReadAnswer} {rest exit : List ℕ} (r : Refusal) → Reads text table answer rest exit → answer ≡ Refused r
-    → readRefusal text table ≡ some r
-unfolding readAnswer
-refused-set text table {answer} {rest} {exit} r h e = by-refusal (readRefusal text table) refl (sym e ∙ h .says)
-  where
-    by-refusal : (o : Option Refusal) → readRefusal text table ≡ o → Refused r ≡ answering o Refused (Set (length (wordsRead (readSet text)) / 4)) → readRefusal text table ≡ some r
-    by-refusal none p q = let z : _≡_ {A = ℕ} 0 1 = cc in absurd (omega arith)
-    by-refusal (some s) p q = cc
-
--- a table of the most words has room for every set: only a line can be refused
-pub roomy : (text table : List ℕ) → tableMost ≤ length table → readRefusal text table ≡ lineRefusal (readSet text)
-unfolding readRefusal
-roomy text table h = by-set (readSet text) refl
-  where
-    by-set : (k : Lines) → readSet text ≡ k → firstOf (lineRefusal k ∷ (TooShort when ltb (length table) (length (wordsRead k))) ∷ []) ≡ lineRefusal k
-    by-set (stop l) e = refl
-    by-set (took ws q) e =
-        let w = set-back text ws q e in
-        let c = w .words in
-        let m = w .most-tasks in
-        rw (le-ltb (length table) (length ws) (omega arith))
 
 -- a set takes at least one byte: what a loop over several sets ends by
 pub shorter : (text ws rest : List ℕ) → readSet text ≡ took ws rest → length rest < length text

@@ -45,22 +45,22 @@ module _ (ws : List ℕ) where
 -- the lines of tasks from word k on
 module _ (ws : List ℕ) (k : ℕ) where
   -- none
-  pub no-more : length ws ≤ k → writeLines k (drop k ws) ≡ []
+  pub write-none : length ws ≤ k → writeLines k (drop k ws) ≡ []
   unfolding writeLines
-  no-more h = rw (drop-of-length-le ws h)
+  write-none h = rw (drop-of-length-le ws h)
 
   module _ (h : k < length ws) where
     -- one, and those after it
-    pub one-more : writeLines k (drop k ws) ≡ line (keyOf (k % 4)) (digits (getD ws k 0)) ++ writeLines (k + 1) (drop (k + 1) ws)
+    pub write-more : writeLines k (drop k ws) ≡ line (keyOf (k % 4)) (digits (getD ws k 0)) ++ writeLines (k + 1) (drop (k + 1) ws)
     unfolding writeLines
-    one-more = rw (drop-cons ws k 0, add-one)
+    write-more = rw (drop-cons ws k 0, add-one)
 
     pub line-room : length (line (keyOf (k % 4)) (digits (getD ws k 0))) ≡ length (digits (getD ws k 0)) + 3
     line-room = omega (arith, line-length (keyOf (k % 4)) (digits (getD ws k 0)), key-length (k % 4))
 
     pub step-length : length (writeLines k (drop k ws)) ≡ length (digits (getD ws k 0)) + 3 + length (writeLines (k + 1) (drop (k + 1) ws))
     step-length =
-        ap length one-more
+        ap length write-more
         ∙ omega (arith, length-append (line (keyOf (k % 4)) (digits (getD ws k 0))) (writeLines (k + 1) (drop (k + 1) ws)), line-room)
 
 -- the text of the set (1,1,1), R 0, byte for byte

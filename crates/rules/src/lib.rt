@@ -1,4 +1,7 @@
-// What the calls take and answer. Document 01 as definitions over these types stands in specs/.
+// What the calls take and answer, and the keys of a text's lines. Document 01 as definitions over these types stands in specs/.
+
+// The key of the first line.
+pub const TASKS_KEY: [u8; 6] = *b"tasks=";
 
 // The keys of a task's four lines, one after another, two bytes each.
 pub const TASK_KEYS: [u8; 8] = *b"c=d=t=r=";

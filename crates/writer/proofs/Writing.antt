@@ -5,7 +5,7 @@ use native.Mathlib.Omega.{arith}
 use mathlib.Core.List.{List, _++_}
 use lib.ListN.{length, drop, getD, length-append}
 use Rattle.rules.specs.Text.{keyOf, tasksKey, digits, line, writeLines, writeSet}
-use Rattle.rules.proofs.WriteSteps.{set-is, one-more}
+use Rattle.rules.proofs.WriteSteps.{set-is, write-more}
 use Rattle.print.specs.Place.{put, Puts}
 use Rattle.print.proofs.Putting.{put-start, put-put}
 
@@ -15,8 +15,8 @@ pub turn : (ws : List ℕ) (k : ℕ) → k < length ws → (l : List ℕ) (at : 
 turn ws k h l at {m} {r} g p =
     let x = line (keyOf (k % 4)) (digits (getD ws k 0)) in
     let y = writeLines (k + 1) (drop (k + 1) ws) in
-    let n : at + length x ≤ length l = omega (arith, ap length (one-more ws k h), length-append x y) in
-    ap₂ (λ (i : List ℕ) (j : ℕ). put i j y) (p .leaves) (p .says) ∙ put-put l at x n y ∙ ap (put l at) (sym (one-more ws k h))
+    let n : at + length x ≤ length l = omega (arith, ap length (write-more ws k h), length-append x y) in
+    ap₂ (λ (i : List ℕ) (j : ℕ). put i j y) (p .leaves) (p .says) ∙ put-put l at x n y ∙ ap (put l at) (sym (write-more ws k h))
 
 -- after the first line it is all that follows in the text
 pub all-put : (ws l : List ℕ) {m : List ℕ} {r : ℕ} → length (writeSet ws) ≤ length l → Puts l 0 (line tasksKey (digits (length ws / 4))) r m

@@ -9,6 +9,7 @@ ghost use Rattle.rules.specs.Calls.{Writes};
 ghost use Rattle.print.specs.Place.{Puts};
 use rules::Refusal;
 use rules::TASK_KEYS;
+use rules::TASKS_KEY;
 use rules::TableAnswer;
 use rules::WriteAnswer;
 
@@ -39,7 +40,7 @@ fn put_set(table: &[u32], out: &mut [u8])
     requires { ⌜ (length (now table) ≤ tableMost) × (length (writeSet (now table)) ≤ length (now out)) ⌝ }
     ensures { λ _. ⌜ now (out .exit) ≡ writeSet (now (table .entry)) ++ drop (length (writeSet (now (table .entry)))) (now (out .entry)) ⌝ }
 {
-    let mut at = print::put_line(out, 0, b"tasks=", (table.len() / 4) as u32);
+    let mut at = print::put_line(out, 0, &TASKS_KEY, (table.len() / 4) as u32);
     let mut k: usize = 0;
     while k < table.len() {
         at = put_task_line(out, at, k % 4, table[k]);

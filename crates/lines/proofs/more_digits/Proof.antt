@@ -7,7 +7,7 @@ use borrow.Author.Tests.{not-true, not-false}
 use Rattle.rules.specs.Text.{moreDigits}
 use Rattle.rules.proofs.ReadSteps.{more-none, more-other, more-step, more-end}
 use Rattle.rules.proofs.Slices.{part}
-use Rattle.lines.proofs.Reading.{room, room-step}
+use Rattle.lines.proofs.Searches.{room, room-step}
 use borrow.Author.Needs.{needs}
 use Rattle.lines.proofs.more_digits.Statement.{statement}
 use Rattle.lines.proofs.more_digits.Tie as tie

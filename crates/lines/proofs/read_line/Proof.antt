@@ -10,7 +10,7 @@ use Rattle.lines.specs.declared.Number.{Number}
 use Rattle.lines.specs.declared.Number.the-variants.{Wrong}
 use Rattle.rules.proofs.ReadSteps.{end-bad, end-none, end-wrong, end-right}
 use Rattle.rules.proofs.Slices.{part}
-use Rattle.lines.proofs.Reading.{value-is-not-wrong, no-key, after-key}
+use Rattle.lines.proofs.Searches.{value-is-not-wrong, no-key, after-key}
 use Rattle.lines.proofs.read_line.Statement.{statement}
 use Rattle.lines.proofs.read_line.Tie as tie
 

@@ -7,7 +7,7 @@ use lib.ListN.{getD}
 use Rattle.rules.specs.Text.{got, digit, moreDigits}
 use Rattle.rules.proofs.ReadSteps.{digit-range, number-none, number-wrong, number-zero, number-more}
 use Rattle.rules.proofs.Slices.{part}
-use Rattle.lines.proofs.Reading.{value-is-not-wrong}
+use Rattle.lines.proofs.Searches.{value-is-not-wrong}
 use borrow.Author.Needs.{needs}
 use Rattle.lines.proofs.read_number.Statement.{statement}
 use Rattle.lines.proofs.read_number.Tie as tie

@@ -39,13 +39,13 @@ loop-less c = search needs
 loop-again : tie.Need-loop-again Inv-loop μ-loop
 loop-again c =
     let at-loop = c .before .before in
-    let a = at-loop .before .args in
+    let args = at-loop .before .args in
     let i = at-loop .loop .i in (
       omega arith,
       (
-        ap (λ (l : List ℕ). set l (a .at + i) (getD (a .bytes .now) i 0)) (at-loop .loop .inv .1 .0)
-            ∙ paste-suc (a .out .now) (a .at) (a .bytes .now) i 0 (omega arith) (omega arith)
-            ∙ ap (paste (a .out .now) (a .at) (a .bytes .now)) (sym (add-one i)),
+        ap (λ (l : List ℕ). set l (args .at + i) (getD (args .bytes .now) i 0)) (at-loop .loop .inv .1 .0)
+            ∙ paste-suc (args .out .now) (args .at) (args .bytes .now) i 0 (omega arith) (omega arith)
+            ∙ ap (paste (args .out .now) (args .at) (args .bytes .now)) (sym (add-one i)),
         simp length-set (at-loop .loop .inv .1 .1),
       ),
     )
@@ -59,11 +59,11 @@ same-length c = search needs
 returns : tie.Need-returns Inv-loop μ-loop
 returns c =
     let at-loop = c .before in
-    let a = at-loop .before .args in
-    let e : at-loop .loop .i ≡ length (a .bytes .now) = omega arith in
+    let args = at-loop .before .args in
+    let e : at-loop .loop .i ≡ length (args .bytes .now) = omega arith in
     record {
       says = omega arith;
-      leaves = at-loop .loop .inv .1 .0 ∙ ap (paste (a .out .now) (a .at) (a .bytes .now)) e ∙ put-paste (a .out .now) (a .at) (a .bytes .now);
+      leaves = at-loop .loop .inv .1 .0 ∙ ap (paste (args .out .now) (args .at) (args .bytes .now)) e ∙ put-paste (args .out .now) (args .at) (args .bytes .now);
     }
 
 pub put-bytes-spec : {M : Type 1} → statement M

@@ -23,9 +23,9 @@ width-requires c κs = search needs
 
 loop-holds : tie.Need-loop-holds Inv-loop μ-loop
 loop-holds c =
-    let a = c .before .before .args in
+    let args = c .before .before .args in
     let e = c .width .ensures .0 in
-    (omega arith, (refl, (e, ap (put (a .out .now) (a .at)) (ap (λ (k : ℕ). lasts k (a .n)) e ∙ sym (digits-lasts (a .n) (omega arith))))))
+    (omega arith, (refl, (e, ap (put (args .out .now) (args .at)) (ap (λ (k : ℕ). lasts k (args .n)) e ∙ sym (digits-lasts (args .n) (omega arith))))))
 
 sub-i : tie.Need-sub-i Inv-loop μ-loop
 sub-i c = search needs
@@ -48,13 +48,13 @@ loop-less c = search needs
 loop-again : tie.Need-loop-again Inv-loop μ-loop
 loop-again c =
     let at-loop = c .before in
-    let a = at-loop .before .before .before .args in (
+    let args = at-loop .before .before .before .args in (
       omega arith,
       (
         simp length-set (at-loop .loop .inv .1 .0),
         (
           at-loop .loop .inv .1 .1 .0,
-          put-digit (at-loop .loop .out) (a .at) (at-loop .loop .i) (at-loop .loop .v) (c .loop-test .taken) (omega arith) ∙ at-loop .loop .inv .1 .1 .1,
+          put-digit (at-loop .loop .out) (args .at) (at-loop .loop .i) (at-loop .loop .v) (c .loop-test .taken) (omega arith) ∙ at-loop .loop .inv .1 .1 .1,
         ),
       ),
     )
@@ -68,11 +68,11 @@ same-length c = search needs
 returns : tie.Need-returns Inv-loop μ-loop
 returns c =
     let at-loop = c .before in
-    let a = at-loop .before .before .before .args in
+    let args = at-loop .before .before .before .args in
     let e : at-loop .loop .i ≡ 0 = omega arith in
     record {
       says = omega arith;
-      leaves = sym (put-none _ (a .at) _ (at-loop .loop .v) e) ∙ at-loop .loop .inv .1 .1 .1;
+      leaves = sym (put-none _ (args .at) _ (at-loop .loop .v) e) ∙ at-loop .loop .inv .1 .1 .1;
     }
 
 pub put-number-spec : {M : Type 1} → statement M

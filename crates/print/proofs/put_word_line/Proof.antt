@@ -8,20 +8,20 @@ use Rattle.print.proofs.put_word_line.Tie as tie
 
 put-bytes-requires : tie.Need-put-bytes-requires
 put-bytes-requires c κs =
-    let a = c .before .before .before .before .args in
-    omega (arith, line-length (a .key .now) (a .value .now))
+    let args = c .before .before .before .before .args in
+    omega (arith, line-length (args .key .now) (args .value .now))
 
 put-bytes-requires-2 : tie.Need-put-bytes-requires-2
 put-bytes-requires-2 c κs =
     let after-key = c .before .before .before in
-    let a = after-key .before .before .before .before .before .args in
-    omega (arith, line-length (a .key .now) (a .value .now), after-key .put-bytes .ensures .says, after-key .put-bytes .kept)
+    let args = after-key .before .before .before .before .before .args in
+    omega (arith, line-length (args .key .now) (args .value .now), after-key .put-bytes .ensures .says, after-key .put-bytes .kept)
 
 put-byte-requires : tie.Need-put-byte-requires
 put-byte-requires c κs =
     let after-key = c .before .before .before .before .before .before .before in
-    let a = after-key .before .before .before .before .before .args in
-    omega (arith, line-length (a .key .now) (a .value .now), after-key .put-bytes .ensures .says, after-key .put-bytes .kept)
+    let args = after-key .before .before .before .before .before .args in
+    omega (arith, line-length (args .key .now) (args .value .now), after-key .put-bytes .ensures .says, after-key .put-bytes .kept)
 
 same-length : tie.Need-same-length
 same-length c = search needs
@@ -31,8 +31,8 @@ returns c =
     let after-end = c .before .before in
     let after-value = after-end .before .before .before .before in
     let after-key = after-value .before .before .before .before in
-    let a = after-key .before .before .before .before .before .args in
-    line-put (a .out .now) (a .at) (a .key .now) (a .value .now) (after-key .before .before .before .before .before .pre) (after-key .put-bytes .ensures) (after-value .put-bytes2 .ensures) (after-end .put-byte .ensures)
+    let args = after-key .before .before .before .before .before .args in
+    line-put (args .out .now) (args .at) (args .key .now) (args .value .now) (after-key .before .before .before .before .before .pre) (after-key .put-bytes .ensures) (after-value .put-bytes2 .ensures) (after-end .put-byte .ensures)
 
 pub put-word-line-spec : {M : Type 1} → statement M
 put-word-line-spec = tie.close (tie.spec put-bytes-requires put-bytes-requires-2 put-byte-requires same-length returns)

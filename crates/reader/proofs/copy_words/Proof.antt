@@ -40,10 +40,10 @@ loop-less c = search needs
 loop-again : tie.Need-loop-again Inv-loop μ-loop
 loop-again c =
     let at-loop = c .before .before in
-    let a = at-loop .before .args in (
+    let args = at-loop .before .args in (
       omega arith,
       (
-        rw (at-loop .loop .inv .1 .0) (copied (a .to .now) (a .from .now) (at-loop .loop .i) (omega arith) (omega arith)),
+        rw (at-loop .loop .inv .1 .0) (copied (args .to .now) (args .from .now) (at-loop .loop .i) (omega arith) (omega arith)),
         simp length-set (at-loop .loop .inv .1 .1),
       ),
     )
@@ -54,9 +54,9 @@ same-length c = search needs
 returns : tie.Need-returns Inv-loop μ-loop
 returns c =
     let at-loop = c .before in
-    let a = at-loop .before .args in
-    let e : at-loop .loop .i ≡ a .n = omega arith in
-    at-loop .loop .inv .1 .0 ∙ ap (λ (k : ℕ). take k (a .from .now) ++ drop k (a .to .now)) e
+    let args = at-loop .before .args in
+    let e : at-loop .loop .i ≡ args .n = omega arith in
+    at-loop .loop .inv .1 .0 ∙ ap (λ (k : ℕ). take k (args .from .now) ++ drop k (args .to .now)) e
 
 pub copy-words-spec : {M : Type 1} → statement M
 copy-words-spec =

@@ -106,15 +106,15 @@ returns-6 c =
     let after-scan = has-room .before .before .before in
     let scan = after-scan .task-lines in
     let n = after-scan .before .before .before .before .before .before .first .given .0 .0 in
-    let a = after-scan .before .before .before .before .before .before .before .before .before .before .before .before .before .args in
+    let args = after-scan .before .before .before .before .before .before .before .before .before .before .before .before .before .args in
     let words = take (4 * n) (scan .last .1 .1 .0) in
     let long : length words ≡ 4 * n = length-take-le (4 * n) (scan .last .1 .1 .0) (omega arith) in
     let tasks : n ≡ length words / 4 = omega arith in
-    let outcome = calls.read-set (a .text .now) (a .table .now) words _ (scan-is after-scan Whole (has-room .enum-told2 .given .1)) (omega arith) in
+    let outcome = calls.read-set (args .text .now) (args .table .now) words _ (scan-is after-scan Whole (has-room .enum-told2 .given .1)) (omega arith) in
     record {
       says = ap Set tasks ∙ outcome .says;
       hands-back = outcome .hands-back;
-      leaves = c .before .before .copy-words .ensures ∙ ap (λ (k : ℕ). words ++ drop k (a .table .now)) (sym long) ∙ outcome .leaves;
+      leaves = c .before .before .copy-words .ensures ∙ ap (λ (k : ℕ). words ++ drop k (args .table .now)) (sym long) ∙ outcome .leaves;
     }
 
 pub read-set-spec : {M : Type 1} → statement M

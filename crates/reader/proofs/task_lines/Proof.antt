@@ -20,9 +20,9 @@ abbrev μ-loop : tie.MeasureT-loop
 
 loop-holds : tie.Need-loop-holds Inv-loop μ-loop
 loop-holds c =
-    let a = c .before .before .args in
-    let e : a .m - 0 ≡ a .m = omega arith in
-    (omega arith, (refl, aheads-none _ ∙ ap (λ (n : ℕ). readLines n 0 (a .s .now)) e))
+    let args = c .before .before .args in
+    let e : args .m - 0 ≡ args .m = omega arith in
+    (omega arith, (refl, aheads-none _ ∙ ap (λ (n : ℕ). readLines n 0 (args .s .now)) e))
 
 task-line-requires : tie.Need-task-line-requires Inv-loop μ-loop
 task-line-requires c κs = search needs

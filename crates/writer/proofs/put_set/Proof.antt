@@ -6,7 +6,7 @@ use native.Mathlib.Omega.{arith}
 use lib.ListN.{length, drop}
 use Rattle.rules.specs.Text.{tasksKey, digits, writeLines}
 use Rattle.print.specs.Place.{put}
-use Rattle.rules.proofs.WriteSteps.{line-length, set-length, no-more, line-room, step-length}
+use Rattle.rules.proofs.WriteSteps.{line-length, set-length, write-none, line-room, step-length}
 use Rattle.print.proofs.Putting.{put-nil}
 use Rattle.writer.proofs.Writing.{turn, all-put}
 use borrow.Author.Needs.{needs}
@@ -31,16 +31,16 @@ cast-put-line c = search needs
 put-line-requires : tie.Need-put-line-requires Inv-loop μ-loop
 put-line-requires c κs =
     let at-entry = c .before .before .before .before in
-    let t = at-entry .args .table .now in
-    omega (arith, set-length t, line-length tasksKey (digits (length t / 4)), at-entry .pre .1)
+    let table = at-entry .args .table .now in
+    omega (arith, set-length table, line-length tasksKey (digits (length table / 4)), at-entry .pre .1)
 
 loop-holds : tie.Need-loop-holds Inv-loop μ-loop
 loop-holds c =
     let first = c .before .before in
     let at-entry = first .before .before .before .before .before in
-    let t = at-entry .args .table .now in
-    let n = first .put-line .ensures .says in
-    (omega arith, (refl, (omega (arith, set-length t, line-length tasksKey (digits (length t / 4)), at-entry .pre .1, first .put-line .kept), refl)))
+    let table = at-entry .args .table .now in
+    let next = first .put-line .ensures .says in
+    (omega arith, (refl, (omega (arith, set-length table, line-length tasksKey (digits (length table / 4)), at-entry .pre .1, first .put-line .kept), refl)))
 
 mul-put-task-line : tie.Need-mul-put-task-line Inv-loop μ-loop
 mul-put-task-line c = search needs
@@ -51,10 +51,10 @@ shared-slice-read-put-task-line c = search needs
 put-task-line-requires : tie.Need-put-task-line-requires Inv-loop μ-loop
 put-task-line-requires c κs =
     let at-loop = c .before .before .before in
-    let t = at-loop .before .before .before .before .before .before .before .before .args .table .now in
+    let table = at-loop .before .before .before .before .before .before .before .before .args .table .now in
     let k = at-loop .loop .k in
-    let h : k < length t = omega arith in
-    (omega arith, omega (arith, step-length t k h, line-room t k h, at-loop .loop .inv .1 .1 .0))
+    let h : k < length table = omega arith in
+    (omega arith, omega (arith, step-length table k h, line-room table k h, at-loop .loop .inv .1 .1 .0))
 
 add-k : tie.Need-add-k Inv-loop μ-loop
 add-k c = search needs
@@ -66,18 +66,18 @@ loop-again : tie.Need-loop-again Inv-loop μ-loop
 loop-again c =
     let line = c .before .before in
     let at-loop = line .before .before .before .before in
-    let t = at-loop .before .before .before .before .before .before .before .before .args .table .now in
+    let table = at-loop .before .before .before .before .before .before .before .before .args .table .now in
     let k = at-loop .loop .k in
-    let h : k < length t = omega arith in
-    let n = line .put-task-line .ensures .says in
-    let m = at-loop .loop .inv .1 .1 .0 in
-    let l : length (line .put-task-line .last .0) ≡ length (at-loop .loop .out) = line .put-task-line .kept .0 in (
+    let h : k < length table = omega arith in
+    let next = line .put-task-line .ensures .says in
+    let room = at-loop .loop .inv .1 .1 .0 in
+    let kept : length (line .put-task-line .last .0) ≡ length (at-loop .loop .out) = line .put-task-line .kept .0 in (
       omega arith,
       (
-        l ∙ at-loop .loop .inv .1 .0,
+        kept ∙ at-loop .loop .inv .1 .0,
         (
-          omega (arith, step-length t k h, line-room t k h),
-          turn t k h (at-loop .loop .out) (at-loop .loop .at) m (line .put-task-line .ensures) ∙ at-loop .loop .inv .1 .1 .1,
+          omega (arith, step-length table k h, line-room table k h),
+          turn table k h (at-loop .loop .out) (at-loop .loop .at) room (line .put-task-line .ensures) ∙ at-loop .loop .inv .1 .1 .1,
         ),
       ),
     )
@@ -90,13 +90,13 @@ returns c =
     let at-loop = c .before in
     let first = at-loop .before .before .before in
     let at-entry = first .before .before .before .before .before in
-    let t = at-entry .args .table .now in
+    let table = at-entry .args .table .now in
     let k = at-loop .loop .k in
-    let h : length t ≤ k = omega arith in
+    let h : length table ≤ k = omega arith in
     sym (put-nil (at-loop .loop .out) (at-loop .loop .at))
-    ∙ ap (put (at-loop .loop .out) (at-loop .loop .at)) (sym (no-more t k h))
+    ∙ ap (put (at-loop .loop .out) (at-loop .loop .at)) (sym (write-none table k h))
     ∙ at-loop .loop .inv .1 .1 .1
-    ∙ all-put t (at-entry .args .out .now) (at-entry .pre .1) (first .put-line .ensures)
+    ∙ all-put table (at-entry .args .out .now) (at-entry .pre .1) (first .put-line .ensures)
 
 pub put-set-spec : {M : Type 1} → statement M
 put-set-spec =

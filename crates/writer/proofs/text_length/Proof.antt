@@ -5,7 +5,7 @@ use Prim.Native.Nat.{_+_, _-_, _*_, _≤_}
 use native.Mathlib.Omega.{arith}
 use lib.ListN.{length, drop}
 use Rattle.rules.specs.Text.{writeLines, writeSet}
-use Rattle.rules.proofs.WriteSteps.{set-length, no-more, step-length}
+use Rattle.rules.proofs.WriteSteps.{set-length, write-none, step-length}
 use borrow.Author.Needs.{needs}
 use Rattle.writer.proofs.text_length.Statement.{statement}
 use Rattle.writer.proofs.text_length.Tie as tie
@@ -60,7 +60,7 @@ loop-again c =
 returns : tie.Need-returns Inv-loop μ-loop
 returns c =
     let at-loop = c .before in
-    let e = ap length (no-more (at-loop .before .before .before .args .table .now) (at-loop .loop .k) (omega arith)) in
+    let e = ap length (write-none (at-loop .before .before .before .args .table .now) (at-loop .loop .k) (omega arith)) in
     (omega arith, omega arith)
 
 pub text-length-spec : {M : Type 1} → statement M

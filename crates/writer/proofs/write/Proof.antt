@@ -19,8 +19,8 @@ fine c = not-refused _ (c .before .before .check-table .ensures) (c .enum-told .
 
 few : (c : tie.After-enum-told) → length (c .before .before .before .before .before .args .table .now) ≤ tableMost
 few c =
-    let v = in-bounds _ (c .before .before .check-table .ensures) (c .enum-told .given .1) in
-    omega (arith, v .words, v .most-tasks)
+    let bounds = in-bounds _ (c .before .before .check-table .ensures) (c .enum-told .given .1) in
+    omega (arith, bounds .words, bounds .most-tasks)
 
 check-table-requires : tie.Need-check-table-requires
 check-table-requires c κs = search needs
@@ -44,14 +44,14 @@ text-length-requires c κs = few c
 returns-2 : tie.Need-returns-2
 returns-2 c =
     let is-table = c .before .before in
-    let a = is-table .before .before .before .before .before .args in
-    let e = c .before .text-length .ensures .0 in
-    write-short (a .table .now) (a .out .now) (fine is-table) (omega arith)
+    let args = is-table .before .before .before .before .before .args in
+    let long = c .before .text-length .ensures .0 in
+    write-short (args .table .now) (args .out .now) (fine is-table) (omega arith)
 
 put-set-requires : tie.Need-put-set-requires
 put-set-requires c κs =
     let is-table = c .before .before .before in
-    let e = c .before .before .text-length .ensures .0 in
+    let long = c .before .before .text-length .ensures .0 in
     (few is-table, omega (arith, c .before .if1 .left))
 
 -- the length fits; the table's length is named too, so that an edit that answers it fails by the answer
@@ -66,9 +66,9 @@ returns-3 : tie.Need-returns-3
 returns-3 c =
     let has-room = c .before .before .before .before in
     let is-table = has-room .before .before in
-    let a = is-table .before .before .before .before .before .args in
+    let args = is-table .before .before .before .before .before .args in
     let long = has-room .before .text-length .ensures .0 in
-    let outcome = write-text (a .table .now) (a .out .now) (fine is-table) (omega (arith, has-room .if1 .left)) in
+    let outcome = write-text (args .table .now) (args .out .now) (fine is-table) (omega (arith, has-room .if1 .left)) in
     record { says = ap WriteAnswer.Written long ∙ outcome .says; leaves = c .before .before .put-set .ensures ∙ outcome .leaves }
 
 pub write-spec : {M : Type 1} → statement M

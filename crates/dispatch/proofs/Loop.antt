@@ -18,10 +18,10 @@ use Rattle.rules.proofs.Calls.{dispatch-rows}
 use Rattle.turn.specs.declared.Turn.{Turn}
 use Rattle.turn.specs.Counters.{restFrom, noneStarted, jobsIn, Chosen}
 use Rattle.turn.proofs.Started.{moved, rowOf, Steps, step}
-use Rattle.dispatch.specs.declared.Lateness.{Lateness}
-use Rattle.dispatch.specs.declared.Lateness.the-variants.{OnTime}
-use Rattle.dispatch.specs.Lateness.{lateness, noting, answered}
-use Rattle.dispatch.proofs.Held.{held-more, answered-is}
+use Rattle.row.specs.declared.Lateness.{Lateness}
+use Rattle.row.specs.declared.Lateness.the-variants.{OnTime}
+use Rattle.row.specs.Lateness.{lateness, noting, answered}
+use Rattle.row.proofs.Held.{held-more, answered-is}
 
 -- k of n rows, those of done, are written to out, which was out₀
 pub record State (w f c out₀ : List ℕ) (m n : ℕ) (out nx : List ℕ) (t : ℕ) (l : Lateness) (k : ℕ) : Type 0 where

@@ -12,9 +12,9 @@ use Rattle.rules.specs.Answers.{timing}
 use Rattle.rules.proofs.Booleans.{split}
 use Rattle.rules.proofs.Order.{ahead-first, goes-before, sooner-yes, sooner-no, earlier, earlier-none}
 use Rattle.rules.proofs.LateJob.{late-one, late-not, late-append}
-use Rattle.dispatch.specs.declared.Lateness.{Lateness}
-use Rattle.dispatch.specs.declared.Lateness.the-variants.{OnTime, Late}
-use Rattle.dispatch.specs.Lateness.{lateness, noting, answered}
+use Rattle.row.specs.declared.Lateness.{Lateness}
+use Rattle.row.specs.declared.Lateness.the-variants.{OnTime, Late}
+use Rattle.row.specs.Lateness.{lateness, noting, answered}
 
 -- a job by what is held of it
 abbrev heldJob : ℕ → ℕ → ℕ → Job

@@ -12,7 +12,7 @@ use rules::Task;
 // The most words of a table, and the greatest value of a word.
 pub const TABLE_MOST: usize = 256;
 
-pub const WORD_MOST: u32 = 65535;
+const WORD_MOST: u32 = 65535;
 
 // The task of number i.
 pub fn task_at(table: &[u32], i: usize) -> Task

@@ -1,14 +1,13 @@
 -- The loop that fills the arrays and counts the jobs, task by task.
-use mathlib.Core.Path.{_≡_, refl, sym, ap, ap₂, _∙_}
+use mathlib.Core.Path.{_≡_, sym, ap, ap₂, _∙_}
 use Prim.Native.Nat.{ℕ, suc, _+_, _-_, _*_, _^_, _≤_, _<_}
 use native.Mathlib.Omega.{arith}
-use mathlib.Core.List.{List, []}
+use mathlib.Core.List.{List}
 use lib.ListN.{length, getD, set, length-set}
 use lib.Seq.{getD-set-same, getD-set-other}
 use Rattle.rules.specs.Numbers.{taskMost}
 use Rattle.rules.specs.Task.{tasksOf}
 use Rattle.rules.specs.Table.{taskIn, tasksFrom, Valid}
-use Rattle.rules.specs.Dispatch.{dispatch}
 use Rattle.rules.specs.Jobs.{trains, planTrain, planned}
 use Rattle.rules.specs.Calls.{Dispatches}
 use Rattle.rules.specs.declared.Plan.{Plan}

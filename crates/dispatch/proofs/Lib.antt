@@ -1,5 +1,3 @@
--- Laws of what is held from row to row, of the loop that writes the rows, and of the one that fills the arrays.
-pub mod Fours
-pub mod Held
+-- Laws of the loop that writes the rows, and of the one that fills the arrays.
 pub mod Loop
 pub mod Filling

@@ -17,11 +17,11 @@ use Rattle.rules.proofs.RowWords.{finish-is, rowWords-append, length-rowWords, 
 use Rattle.rules.proofs.Calls.{dispatch-rows}
 use Rattle.turn.specs.declared.Turn.{Turn}
 use Rattle.turn.specs.Counters.{restFrom, noneStarted, jobsIn, Chosen}
-use Rattle.turn.proofs.Started.{moved, rowOf, Steps, step}
-use Rattle.dispatch.specs.declared.Lateness.{Lateness}
-use Rattle.dispatch.specs.declared.Lateness.the-variants.{OnTime}
-use Rattle.dispatch.specs.Lateness.{lateness, noting, answered}
-use Rattle.dispatch.proofs.Held.{held-more, answered-is}
+use Rattle.turn.proofs.Started.{moved, rowOf, OneTurn, one-turn}
+use Rattle.row.specs.declared.Lateness.{Lateness}
+use Rattle.row.specs.declared.Lateness.the-variants.{OnTime}
+use Rattle.row.specs.Lateness.{lateness, noting, answered}
+use Rattle.row.proofs.Held.{held-more, answered-is}
 
 -- k of n rows, those of done, are written to out, which was out₀
 pub record State (w f c out₀ : List ℕ) (m n : ℕ) (out nx : List ℕ) (t : ℕ) (l : Lateness) (k : ℕ) : Type 0 where
@@ -69,7 +69,7 @@ module _ (w f c out₀ : List ℕ) (m n : ℕ) (ok : Valid w m) where
         let done : List Row = S .done in
         let row : Row = rowOf w f nx x in
         let after : List Job = restFrom w f c (moved nx (x .task)) m 0 in
-        let st : Steps w f c nx m t p x = step w f c nx m t p x (omega (arith, S .slots, ok .most-tasks)) (omega (arith, S .jobs)) ch in
+        let st : OneTurn w f c nx m t p x = one-turn w f c nx m t p x (omega (arith, S .slots, ok .most-tasks)) (omega (arith, S .jobs)) ch in
         let ep : n - k ≡ suc p = omega arith in
         let len : length (rowWords done) ≡ 4 * k = omega (arith, length-rowWords done, S .count) in
         let front : take (4 * k) out ≡ rowWords done =

@@ -1,15 +1,17 @@
 // The rows of a plan's jobs: the one call that dispatches.
 ghost use mathlib.Core.Path.{_≡_};
-ghost use mathlib.Core.List.{_∷_, _++_};
-ghost use Prim.Native.Nat.{_+_, _*_, _^_, _<_, _≤_};
-ghost use lib.ListN.{length, take, drop};
+ghost use Prim.Native.Nat.{_*_, _^_, _<_, _≤_};
+ghost use lib.ListN.{length};
 ghost use Rattle.rules.specs.Task.{tasksOf};
 ghost use Rattle.rules.specs.Table.{taskCount, ValidTable};
 ghost use Rattle.rules.specs.Jobs.{planned};
 ghost use Rattle.rules.specs.Calls.{Dispatches};
 ghost use Rattle.turn.specs.Counters.{jobsIn};
-ghost use Rattle.dispatch.specs.Lateness.{noting, answered};
 use arith::wide;
+use row::Lateness;
+use row::answer;
+use row::noted;
+use row::put_row;
 use rules::Plan;
 use rules::Refusal;
 use rules::ScheduleAnswer;
@@ -17,76 +19,6 @@ use table::task_at;
 use trains::train_of;
 use turn::TASK_MOST;
 use turn::choose;
-
-// The late job so far whose deadline is least.
-enum Lateness {
-    OnTime,
-    Late { task: u64, job: u64, deadline: u64 },
-}
-
-// Writes row k.
-fn put_row(rows: &mut [u64], k: usize, task: u64, number: u64, s: u64, f: u64)
-    requires { ⌜ 4 * k + 3 < length (now rows) ⌝ }
-    ensures { λ _. ⌜ now (rows .exit) ≡ take (4 * k) (now (rows .entry)) ++ (task ∷ number ∷ s ∷ f ∷ drop (4 * k + 4) (now (rows .entry))) ⌝ }
-{
-    rows[4 * k] = task;
-    rows[4 * k + 1] = number;
-    rows[4 * k + 2] = s;
-    rows[4 * k + 3] = f;
-}
-
-// The late job after one row more: the job of that number of a task, due at a tick and finished at f.
-fn noted(held: Lateness, task: u64, number: u64, due: u64, f: u64) -> Lateness
-    ensures { λ r. ⌜ r ≡ noting held task number due f ⌝ }
-{
-    if f <= due {
-        return held;
-    }
-    let Lateness::Late {
-        task: other,
-        job: _,
-        deadline: least,
-    } = held
-    else {
-        return Lateness::Late {
-            task,
-            job: number,
-            deadline: due,
-        };
-    };
-    if least < due {
-        return held;
-    }
-    if due == least {
-        if other <= task {
-            return held;
-        }
-    }
-    Lateness::Late {
-        task,
-        job: number,
-        deadline: due,
-    }
-}
-
-// The answer for n rows.
-fn answer(n: u64, late: Lateness) -> ScheduleAnswer
-    ensures { λ r. ⌜ r ≡ answered n late ⌝ }
-{
-    match late {
-        Lateness::OnTime => ScheduleAnswer::OnTime(n),
-        Lateness::Late {
-            task,
-            job,
-            deadline,
-        } => ScheduleAnswer::Late {
-            rows: n,
-            task,
-            job,
-            deadline,
-        },
-    }
-}
 
 // Writes the rows of the n jobs that the arrays hold, four words a row, and says whether all were on time.
 fn run(

@@ -9,7 +9,7 @@ use Rattle.rules.specs.declared.Plan.{Plan}
 use Rattle.rules.specs.Task.{tasksOf}
 use Rattle.rules.specs.Table.{taskIn, tasksFrom, Valid}
 use Rattle.rules.specs.Dispatch.{Job, dispatch}
-use Rattle.rules.specs.Jobs.{train, trains, planTrain, planned}
+use Rattle.rules.specs.Jobs.{trains, planTrain, planned}
 use Rattle.rules.proofs.Tables.{tasks-are, sound-tasks}
 use Rattle.rules.proofs.Members.{length-train}
 use Rattle.rules.proofs.Trains.{trainOf, trains-legal}

@@ -1,7 +1,7 @@
 -- The starred sets hold: one test computed over the whole table, and a law that turns the test of a row into what the row says.
 use mathlib.Core.Path.{_≡_, refl, sym, ap, _∙_}
 use mathlib.Core.Option.{Option, none, some}
-use Prim.Native.Nat.{ℕ, _-_, _*_, _≤_}
+use Prim.Native.Nat.{ℕ, _-_, _≤_}
 use native.Mathlib.Omega.{arith}
 use mathlib.Core.List.{List, [], _∷_, _++_, append-nil, List·Memᴰ, List·Memᴰ·head, List·Memᴰ·tail, List·Memᴰ·not-nil}
 use mathlib.Core.Bool.{Bool, true, false, _&&_}
@@ -12,7 +12,7 @@ use Rattle.rules.specs.Choice.{least}
 use Rattle.rules.specs.Task.{tasksOf, AllSound}
 use Rattle.rules.specs.declared.Task.{Task}
 use Rattle.rules.specs.Table.{wordLeast, inRange, outOfRange, tableRefusal}
-use Rattle.rules.specs.Dispatch.{Row, finish, late, before, sooner, pick, same, without, earliest, ready, rows, dispatch, lateJob, rowWords}
+use Rattle.rules.specs.Dispatch.{finish, late, before, sooner, pick, same, without, earliest, ready, rows, dispatch, lateJob, rowWords}
 use Rattle.rules.specs.Jobs.{train, trains, countBefore, concreteTrain, planned, concrete, namedTrain}
 use Rattle.rules.specs.Numbers.{endMost, horizon}
 use Rattle.rules.specs.Demand.{countWithin, due, Due, wait, Wait, fails, ceiling, work, closes, firstFail, span, firstWaiting, blocker, verdict}
@@ -27,6 +27,7 @@ use Rattle.rules.proofs.Booleans.{both-true, true-is-not-false}
 use Rattle.rules.proofs.Tables.{table-sound}
 use Rattle.rules.proofs.RowWords.{length-rowWords}
 use Rattle.rules.proofs.Calls.{counted, dispatch-rows, schedule-rows, pattern-rows}
+use Rattle.rules.proofs.RowWords.{length-rowWords}
 use Rattle.rules.proofs.Search.{found, none-found}
 use Rattle.rules.proofs.Least.{least-below}
 use Rattle.rules.proofs.Verdicts.{First, NoneIn, none-when, misses-when, meets-when}

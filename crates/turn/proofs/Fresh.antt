@@ -1,5 +1,5 @@
 -- Before the first row: arrays that hold the trains of a plan stand for its jobs.
-use mathlib.Core.Path.{_≡_, refl, sym, ap, ap₂, _∙_}
+use mathlib.Core.Path.{_≡_, sym, ap, ap₂, _∙_}
 use Prim.Native.Nat.{ℕ, zero, suc, _+_, _-_, _*_, _≤_, _<_}
 use native.Mathlib.Nat.{zero-mul}
 use native.Mathlib.Omega.{arith}
@@ -9,7 +9,7 @@ use Rattle.rules.specs.Numbers.{taskMost}
 use Rattle.rules.specs.Task.{tasksOf}
 use Rattle.rules.specs.Dispatch.{Job}
 use Rattle.rules.specs.Jobs.{train, trains, planTrain, planned}
-use Rattle.rules.specs.Table.{taskIn, tasksFrom, Valid}
+use Rattle.rules.specs.Table.{taskIn, tasksFrom}
 use Rattle.rules.specs.declared.Plan.{Plan}
 use Rattle.rules.specs.declared.Train.{Train}
 use Rattle.rules.proofs.Trains.{trainOf}

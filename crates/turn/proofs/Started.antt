@@ -25,8 +25,7 @@ abbrev pub rowOf : List ℕ → List ℕ → List ℕ → Turn → Row
 rowOf w f nx x = record { job = jobAt w f (x .task) (getD nx (x .task) 0); start = x .start }
 
 module _ (w f c : List ℕ) where
-  -- ---- the next job of task b goes
-
+  -- the next job of task b goes: the tasks after it stay as they are; its own jobs are those after that one
   same-rest : (nx : List ℕ) (b v n k : ℕ) → b < k → restFrom w f c (set nx b v) n k ≡ restFrom w f c nx n k
   unfolding restFrom
   same-rest nx b v zero k h = refl
@@ -59,15 +58,14 @@ module _ (w f c : List ℕ) where
         ∙ ap₂ (λ (p : ℕ) (js : List Job). jobsAt w f c k p ++ js) (sym (getD-set-other nx b k (q + 1) 0 (λ e. omega arith)))
         (without-next n (suc k) (omega arith) (omega arith)))
 
-  -- ---- one turn of the loop is one row
-
-  pub record Steps (nx : List ℕ) (m t p : ℕ) (x : Turn) : Type 0 where
+  -- so a turn is one row of the dispatcher, and the counters stand for the jobs that are left
+  pub record OneTurn (nx : List ℕ) (m t p : ℕ) (x : Turn) : Type 0 where
     pub row : rows (suc p) t (restFrom w f c nx m 0)
         ≡ rowOf w f nx x ∷ rows p (x .start + taskIn w (x .task) .C) (restFrom w f c (moved nx (x .task)) m 0)
     pub fewer : length (restFrom w f c (moved nx (x .task)) m 0) ≡ p
 
-  pub step : (nx : List ℕ) (m t p : ℕ) (x : Turn) → m ≤ length nx → length (restFrom w f c nx m 0) ≡ suc p → Chosen w f c nx t m 0 x → Steps nx m t p x
-  step nx m t p x hm hl ch =
+  pub one-turn : (nx : List ℕ) (m t p : ℕ) (x : Turn) → m ≤ length nx → length (restFrom w f c nx m 0) ≡ suc p → Chosen w f c nx t m 0 x → OneTurn nx m t p x
+  one-turn nx m t p x hm hl ch =
       let js : List Job = restFrom w f c nx m 0 in
       let e : m - 0 ≡ m = omega arith in
       let er : ready t js ≡ x .start = ap (λ (n : ℕ). ready t (restFrom w f c nx n 0)) (sym e) ∙ ch .starts in

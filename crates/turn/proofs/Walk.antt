@@ -14,8 +14,6 @@ use Rattle.rules.proofs.Choosing.{pick-come, pick-not, pick-one, pick-nobody, n
 use Rattle.turn.specs.declared.Turn.{Turn}
 use Rattle.turn.specs.Counters.{releaseAt, jobAt, jobsAt, restFrom, Chosen, Best, nobody, somebody}
 
--- ---- task i in front of those after it
-
 -- the next job of task i: released at r, it could start at a, and is due v after its release
 pub record Offer (w f c nx : List ℕ) (t m i r a v : ℕ) : Type 0 where
   pub is-task : i < m
@@ -59,8 +57,7 @@ module _ (w f c nx : List ℕ) (t m : ℕ) where
     ready-left : ready t (rest i) ≡ ready t (head i ∷ rest (i + 1))
     ready-left = ap (ready t) left ∙ ready-train t _ _ _ _ (taskIn w i) _
 
-  -- ---- the walk's end, where there is a job
-
+  -- THE END: where there is a job, one is chosen
   pub chosen : (i : ℕ) (x : Turn) → i ≤ 0 → 0 < length (restFrom w f c nx m 0) → Best w f c nx t m i x → Chosen w f c nx t m 0 x
   chosen i x h l (nobody e s) =
       let z : 0 ≡ i = omega arith in
@@ -68,8 +65,8 @@ module _ (w f c nx : List ℕ) (t m : ℕ) where
       absurd (omega (arith, ap length (ap rest z ∙ e), ap (λ (k : ℕ). length (restFrom w f c nx k 0)) n))
   chosen i x h l (somebody ch) = let z : i ≡ 0 = omega arith in subst (λ (k : ℕ). Chosen w f c nx t m k x) z ch
 
-  -- ---- a step of the walk
-
+  -- A STEP
+  -- no task is looked at yet
   pub best-none : (x : Turn) → x .start ≡ 18446744073709551615 → Best w f c nx t m m x
   best-none x e = nobody rest-none e
 

@@ -9,7 +9,6 @@ use Rattle.rules.specs.Dispatch.{Job, pick, ready}
 use Rattle.rules.specs.Jobs.{train, planTrain}
 use Rattle.rules.specs.Table.{taskIn}
 use Rattle.rules.specs.declared.Plan.{Plan}
-use Rattle.rules.specs.declared.Train.{Train}
 use Rattle.turn.specs.declared.Turn.{Turn}
 
 -- when job q of task i is released

@@ -1,7 +1,7 @@
 -- `dispatch::dispatch` gives the rows of a plan's jobs: the loop fills the arrays with the plan's trains and counts their jobs, one row a job;
 -- then the buffer is too short, or the rows are those of the jobs that the arrays hold.
 use mathlib.Core.Path.{refl, ap, subst, _∙_}
-use Prim.Native.Nat.{ℕ, _-_}
+use Prim.Native.Nat.{_-_}
 use native.Mathlib.Omega.{arith}
 use borrow.Author.Needs.{needs}
 use denote.Ref.{now}

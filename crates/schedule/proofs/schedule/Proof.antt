@@ -36,7 +36,7 @@ returns-2 c = schedule-end _ _ _ (fine (c .before)) (inl (c .if1 .taken))
 
 -- 5: a far one
 returns-3 : tie.Need-returns-3
-returns-3 c = schedule-end _ _ _ (fine (c .before .before)) (inr (c .if2 .taken))
+returns-3 c = schedule-end _ _ _ (fine (c .before .before)) (inr (omega arith))
 
 dispatch-requires : tie.Need-dispatch-requires
 dispatch-requires c κs =
@@ -51,7 +51,7 @@ returns-4 : tie.Need-returns-4
 returns-4 c =
     let after-rows = c .before .before in
     let at-end = after-rows .before .before in
-    schedule-rows _ _ _ (fine (at-end .before .before)) (omega arith) (at-end .if2 .left) (after-rows .dispatch .ensures)
+    schedule-rows _ _ _ (fine (at-end .before .before)) (omega arith) (omega arith) (after-rows .dispatch .ensures)
 
 pub schedule-spec : {M : Type 1} → statement M
 schedule-spec =

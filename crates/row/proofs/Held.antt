@@ -12,9 +12,9 @@ use Rattle.rules.specs.Answers.{timing}
 use Rattle.rules.proofs.Booleans.{split}
 use Rattle.rules.proofs.Order.{ahead-first, goes-before, sooner-yes, sooner-no, earlier, earlier-none}
 use Rattle.rules.proofs.LateJob.{late-one, late-not, late-append}
-use Rattle.dispatch.specs.declared.Lateness.{Lateness}
-use Rattle.dispatch.specs.declared.Lateness.the-variants.{OnTime, Late}
-use Rattle.dispatch.specs.Lateness.{lateness, noting, answered}
+use Rattle.row.specs.declared.Lateness.{Lateness}
+use Rattle.row.specs.declared.Lateness.the-variants.{OnTime, Late}
+use Rattle.row.specs.Lateness.{lateness, noting, answered}
 
 -- a job by what is held of it
 abbrev heldJob : ℕ → ℕ → ℕ → Job
@@ -53,16 +53,16 @@ module _ (w : Row) where
       go true e = ap lateness (sym (sooner-yes (w .job) i e))
       go false e = ap lateness (sym (sooner-no (w .job) i e))
 
-  one-more : (o : Option Job)
+  held-one : (o : Option Job)
       → noting (lateness o) (w .job .task) (w .job .number) (w .job .deadline) (finish w) ≡ lateness (earlier o (lateJob (w ∷ [])))
-  one-more o =
+  held-one o =
       split (finish w) (w .job .deadline)
       (λ h. sym (on-time (lateness o) _ _ _ _ h) ∙ ap lateness (sym (earlier-none o) ∙ ap (earlier o) (sym (late-not w h))))
       (λ h. more-late h o ∙ ap (λ (x : Option Job). lateness (earlier o x)) (sym (late-one w h)))
 
   pub held-more : (ws : List Row)
       → noting (lateness (lateJob ws)) (w .job .task) (w .job .number) (w .job .deadline) (finish w) ≡ lateness (lateJob (ws ++ (w ∷ [])))
-  held-more ws = one-more (lateJob ws) ∙ ap lateness (sym (late-append ws (w ∷ [])))
+  held-more ws = held-one (lateJob ws) ∙ ap lateness (sym (late-append ws (w ∷ [])))
 
 -- the answer is the rules' timing
 pub answered-is : (n : ℕ) (o : Option Job) → answered n (lateness o) ≡ timing n o

@@ -6,8 +6,8 @@ use lib.Dec.{ltb, eqb}
 use Rattle.rules.specs.Choice.{if_then_else_}
 use Rattle.rules.specs.Dispatch.{Job}
 use Rattle.rules.specs.declared.ScheduleAnswer.{ScheduleAnswer}
-use Rattle.dispatch.specs.declared.Lateness.{Lateness}
-use Rattle.dispatch.specs.declared.Lateness.the-variants.{OnTime, Late}
+use Rattle.row.specs.declared.Lateness.{Lateness}
+use Rattle.row.specs.declared.Lateness.the-variants.{OnTime, Late}
 
 -- that job, as it is held
 abbrev pub lateness : Option Job → Lateness

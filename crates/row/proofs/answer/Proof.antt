@@ -1,6 +1,7 @@
+-- `row::answer` gives the answer for the rows: by cases on what is held.
 use borrow.Author.Needs.{needs}
-use Rattle.dispatch.proofs.answer.Statement.{statement}
-use Rattle.dispatch.proofs.answer.Tie as tie
+use Rattle.row.proofs.answer.Statement.{statement}
+use Rattle.row.proofs.answer.Tie as tie
 
 enum-told : tie.Need-enum-told
 enum-told c = search needs

@@ -1,0 +1,3 @@
+-- Laws of a row's four stores and of the late job that is held.
+pub mod Fours
+pub mod Held

@@ -1,3 +1,2 @@
--- Laws that the proofs share.
-pub mod Plans
+-- Laws that the proof of the call rests on.
 pub mod Shown

@@ -1,2 +1,2 @@
--- Words of the contracts in this crate.
-pub mod Plans
+-- What is promised of the rows beside the rules of the call.
+pub mod OneLate

@@ -1,0 +1,78 @@
+-- `tilecheck::main` ends: the buffer is longer than the longest input, so what fills it is too long, and what was read whole is a part of it.
+use mathlib.Core.Path.{sym, subst}
+use Prim.Native.Nat.{_<_}
+use native.Mathlib.Omega.{arith}
+use lib.ListN.{length}
+use lib.Seq.{length-take-le}
+use Rattle.tilecheck.specs.Input.{Within}
+use Rattle.tilecheck.specs.declared.Input.{Input}
+use borrow.Author.Needs.{needs}
+use Rattle.tilecheck.proofs.main.Statement.{statement}
+use Rattle.tilecheck.proofs.main.Tie as tie
+
+-- an input that was read whole does not fill the buffer
+within : (c : tie.After-known-told) → c .before .read .given .0 .0 < length (c .before .before .before .before .read-input .last .0)
+within c =
+    let after-read = c .before .before .before .before in
+    subst (λ (r : Input). Within r (length (after-read .read-input .last .0))) (c .before .read .given .1) (after-read .read-input .ensures)
+
+slice-aggregate-read-input : tie.Need-slice-aggregate-read-input
+slice-aggregate-read-input c = search needs
+
+read-input-requires : tie.Need-read-input-requires
+read-input-requires c κs = search needs
+
+enum-known-read : tie.Need-enum-known-read
+enum-known-read c = search needs
+
+array-share-prefix-input : tie.Need-array-share-prefix-input
+array-share-prefix-input c = omega (arith, within c)
+
+slice-aggregate-print-output : tie.Need-slice-aggregate-print-output
+slice-aggregate-print-output c = sym (length-take-le _ _ (array-share-prefix-input (c .before)))
+
+print-output-requires : tie.Need-print-output-requires
+print-output-requires c κs = search needs
+
+enum-told : tie.Need-enum-told
+enum-told c = search needs
+
+slice-aggregate-print-output-2 : tie.Need-slice-aggregate-print-output-2
+slice-aggregate-print-output-2 c = search needs
+
+print-output-requires-2 : tie.Need-print-output-requires-2
+print-output-requires-2 c κs = search needs
+
+enum-known-read-2 : tie.Need-enum-known-read-2
+enum-known-read-2 c = search needs
+
+tell-read-requires : tie.Need-tell-read-requires
+tell-read-requires c κs = search needs
+
+returns : tie.Need-returns
+returns c = search needs
+
+returns-2 : tie.Need-returns-2
+returns-2 c = search needs
+
+returns-3 : tie.Need-returns-3
+returns-3 c = search needs
+
+pub main-spec : {M : Type 1} → statement M
+main-spec =
+    tie.close
+    (tie.spec
+    slice-aggregate-read-input
+    read-input-requires
+    enum-known-read
+    array-share-prefix-input
+    slice-aggregate-print-output
+    print-output-requires
+    enum-told
+    slice-aggregate-print-output-2
+    print-output-requires-2
+    enum-known-read-2
+    tell-read-requires
+    returns
+    returns-2
+    returns-3)

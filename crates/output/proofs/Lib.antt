@@ -1,2 +1,3 @@
--- Laws of the run over the sets.
+-- Laws of the run over the sets, and what the output's promise tells its callers.
 mod Turns
+pub mod Outcome

@@ -13,3 +13,7 @@ outputMost = 91522
 pub record Prints (input out : List ℕ) (size : ℕ) (exit : List ℕ) : Type 0 where
   pub says : size ≡ length (output input)
   pub leaves : exit ≡ output input ++ drop (length (output input)) out
+
+-- two outcomes of one call are equal
+abbrev pub PrintsOne : Type 0
+PrintsOne = (input out : List ℕ) (m n : ℕ) (e f : List ℕ) → Prints input out m e → Prints input out n f → (m ≡ n) × (e ≡ f)

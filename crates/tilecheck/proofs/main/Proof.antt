@@ -1,19 +1,20 @@
+-- `tilecheck::main` ends: the buffer is longer than the longest input, so what fills it is too long, and what was read whole is a part of it.
 use mathlib.Core.Path.{sym, subst}
 use Prim.Native.Nat.{_<_}
 use native.Mathlib.Omega.{arith}
 use lib.ListN.{length}
 use lib.Seq.{length-take-le}
-use borrow.Author.Needs.{needs}
 use Rattle.tilecheck.specs.Input.{Within}
 use Rattle.tilecheck.specs.declared.Input.{Input}
+use borrow.Author.Needs.{needs}
 use Rattle.tilecheck.proofs.main.Statement.{statement}
 use Rattle.tilecheck.proofs.main.Tie as tie
 
--- the input does not fill the buffer
+-- an input that was read whole does not fill the buffer
 within : (c : tie.After-known-told) → c .before .read .given .0 .0 < length (c .before .before .before .before .read-input .last .0)
 within c =
-    let f = c .before .before .before .before .read-input in
-    subst (λ (r : Input). Within r (length (f .last .0))) (c .before .read .given .1) (f .ensures)
+    let after-read = c .before .before .before .before in
+    subst (λ (r : Input). Within r (length (after-read .read-input .last .0))) (c .before .read .given .1) (after-read .read-input .ensures)
 
 slice-aggregate-read-input : tie.Need-slice-aggregate-read-input
 slice-aggregate-read-input c = search needs
@@ -27,38 +28,26 @@ enum-known-read c = search needs
 array-share-prefix-input : tie.Need-array-share-prefix-input
 array-share-prefix-input c = omega (arith, within c)
 
-slice-aggregate-print-sets : tie.Need-slice-aggregate-print-sets
-slice-aggregate-print-sets c = sym (length-take-le _ _ (array-share-prefix-input (c .before)))
+slice-aggregate-print-output : tie.Need-slice-aggregate-print-output
+slice-aggregate-print-output c = sym (length-take-le _ _ (array-share-prefix-input (c .before)))
 
-print-sets-requires : tie.Need-print-sets-requires
-print-sets-requires c κs =
-    let k = c .before in
-    let r = k .before .before .before .before .read-input in
-    omega (arith, within k, r .kept .0, length-take-le (k .before .read .given .0 .0) (r .last .0) (array-share-prefix-input k))
-
-tell-requires : tie.Need-tell-requires
-tell-requires c κs = search needs
+print-output-requires : tie.Need-print-output-requires
+print-output-requires c κs = search needs
 
 enum-told : tie.Need-enum-told
 enum-told c = search needs
 
-slice-aggregate-write-all : tie.Need-slice-aggregate-write-all
-slice-aggregate-write-all c = search needs
+slice-aggregate-print-output-2 : tie.Need-slice-aggregate-print-output-2
+slice-aggregate-print-output-2 c = search needs
 
-write-all-requires : tie.Need-write-all-requires
-write-all-requires c κs = search needs
+print-output-requires-2 : tie.Need-print-output-requires-2
+print-output-requires-2 c κs = search needs
 
-tell-requires-2 : tie.Need-tell-requires-2
-tell-requires-2 c κs = search needs
+enum-known-read-2 : tie.Need-enum-known-read-2
+enum-known-read-2 c = search needs
 
-enum-told-2 : tie.Need-enum-told-2
-enum-told-2 c = search needs
-
-slice-aggregate-write-all-2 : tie.Need-slice-aggregate-write-all-2
-slice-aggregate-write-all-2 c = search needs
-
-write-all-requires-2 : tie.Need-write-all-requires-2
-write-all-requires-2 c κs = search needs
+tell-read-requires : tie.Need-tell-read-requires
+tell-read-requires c κs = search needs
 
 returns : tie.Need-returns
 returns c = search needs
@@ -77,16 +66,13 @@ main-spec =
     read-input-requires
     enum-known-read
     array-share-prefix-input
-    slice-aggregate-print-sets
-    print-sets-requires
-    tell-requires
+    slice-aggregate-print-output
+    print-output-requires
     enum-told
-    slice-aggregate-write-all
-    write-all-requires
-    tell-requires-2
-    enum-told-2
-    slice-aggregate-write-all-2
-    write-all-requires-2
+    slice-aggregate-print-output-2
+    print-output-requires-2
+    enum-known-read-2
+    tell-read-requires
     returns
     returns-2
     returns-3)

@@ -21,7 +21,7 @@ use Rattle.rules.proofs.Calls.{verdict-refused, verdict-judged}
 use Rattle.rules.proofs.Verdicts.{First, misses-when, meets-when, too-far-when, steady-not-first}
 use Rattle.rules.proofs.Meets.{meets}
 use Rattle.rules.proofs.Misses.{misses}
-use Rattle.rules.proofs.Least.{least-below}
+use Rattle.rules.proofs.BelowTheSpan.{least-below}
 use Rattle.promises.specs.Tables.{Least}
 use Rattle.promises.specs.Demands.{InTime, MakesLate, Condition, Kept, KeptBy, TrueOfEveryPattern}
 use Rattle.promises.specs.Sharper.{Sharper}

@@ -19,19 +19,19 @@ pub mod Determined
 pub mod Choosing
 pub mod RowWords
 -- trains of jobs, and the blocker
-pub mod Counts
-pub mod Rest
+pub mod TaskTrains
+pub mod TasksFrom
 pub mod Trains
 pub mod Members
 pub mod Planned
 pub mod Blockers
 -- demand 3: the verdict's three lines, meets, misses, the least length
 pub mod Verdicts
-pub mod Count
+pub mod Loads
 pub mod Meets
-pub mod Late
+pub mod Overfull
 pub mod Misses
-pub mod Least
+pub mod BelowTheSpan
 -- the walk over the tasks and the two looks, as code makes them
 pub mod TasksLeft
 pub mod LongestWait

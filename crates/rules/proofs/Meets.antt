@@ -21,7 +21,7 @@ use Rattle.rules.proofs.Taken.{Taken, taken-mem}
 use Rattle.rules.proofs.Legal.{taskAt-sound, legal-fits, taken-legal}
 use Rattle.rules.proofs.Picked.{earliest-least, earliest-some, Picked}
 use Rattle.rules.proofs.Runs.{Run, done, step, dispatch-run}
-use Rattle.rules.proofs.Count.{total, total-some, total-drops, dueBy, early, is-due, is-early, count-due, count-work}
+use Rattle.rules.proofs.Loads.{total, total-some, total-drops, dueBy, early, is-due, is-early, count-due, count-work}
 use Rattle.rules.proofs.Blockers.{wait-most}
 use Rattle.rules.proofs.Verdicts.{closes-when, due-in}
 

@@ -17,14 +17,14 @@ use Rattle.rules.specs.declared.Train.{Train}
 use Rattle.rules.specs.Legal.{Legal}
 use Rattle.rules.specs.Demand.{countWithin, due, Due, Wait, fails, blocker, Blocks}
 use Rattle.rules.specs.declared.Blocker.{Blocker}
-use Rattle.rules.proofs.Rest.{Rest, rest-all, rest-here, rest-next}
+use Rattle.rules.proofs.TasksFrom.{Rest, rest-all, rest-here, rest-next}
 use Rattle.rules.proofs.Members.{trains-members, named-members, named-blocker, named-others}
 use Rattle.rules.proofs.Trains.{trainOf, trains-legal}
 use Rattle.rules.proofs.Runs.{dispatch-run}
-use Rattle.rules.proofs.Count.{amount, total, since, due-load}
+use Rattle.rules.proofs.Loads.{amount, total, since, due-load}
 use Rattle.rules.proofs.Blockers.{wait-most, wait-reached, blocker-task, blocker-nobody}
 use Rattle.rules.proofs.Verdicts.{fails-when, due-out}
-use Rattle.rules.proofs.Late.{LateIn, late-run, late-behind}
+use Rattle.rules.proofs.Overfull.{LateIn, late-run, late-behind}
 
 total-append : (p : Job → Bool) (xs ys : List Job) → total p (xs ++ ys) ≡ total p xs + total p ys
 unfolding total

@@ -29,7 +29,7 @@ use Rattle.rules.proofs.RowWords.{length-rowWords}
 use Rattle.rules.proofs.Calls.{counted, dispatch-rows, schedule-rows, pattern-rows}
 use Rattle.rules.proofs.RowWords.{length-rowWords}
 use Rattle.rules.proofs.Search.{found, none-found}
-use Rattle.rules.proofs.Least.{least-below}
+use Rattle.rules.proofs.BelowTheSpan.{least-below}
 use Rattle.rules.proofs.Verdicts.{First, NoneIn, none-when, misses-when, meets-when}
 
 -- tests of equality

@@ -11,7 +11,7 @@ use Rattle.rules.specs.Dispatch.{Job}
 use Rattle.rules.specs.Jobs.{train, trains}
 use Rattle.rules.specs.declared.Train.{Train}
 use Rattle.rules.specs.Legal.{Apart, Legal}
-use Rattle.rules.proofs.Rest.{Rest, rest-all, rest-here, rest-next}
+use Rattle.rules.proofs.TasksFrom.{Rest, rest-all, rest-here, rest-next}
 use Rattle.rules.proofs.Legal.{taskAt-sound}
 
 -- the jobs of a train are those of its task, from its first number and its first release on

@@ -3,7 +3,7 @@ use mathlib.Core.Path.{sym, _∙_}
 use Prim.Native.Nat.{_*_, _^_, _≤_}
 use native.Mathlib.Omega.{arith}
 use borrow.Author.Needs.{needs}
-use Rattle.rules.proofs.Counts.{due-counted}
+use Rattle.rules.proofs.TaskTrains.{due-counted}
 use Rattle.demand.proofs.Bounds.{times-small}
 use Rattle.demand.proofs.due_of.Statement.{statement}
 use Rattle.demand.proofs.due_of.Tie as tie

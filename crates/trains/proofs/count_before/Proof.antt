@@ -3,7 +3,7 @@ use mathlib.Core.Path.{sym}
 use Prim.Native.Nat.{_-_}
 use native.Mathlib.Omega.{arith}
 use borrow.Author.Needs.{needs}
-use Rattle.rules.proofs.Counts.{before-some, before-none, one-more}
+use Rattle.rules.proofs.TaskTrains.{before-some, before-none, one-more}
 use Rattle.trains.proofs.count_before.Statement.{statement}
 use Rattle.trains.proofs.count_before.Tie as tie
 

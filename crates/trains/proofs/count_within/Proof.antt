@@ -3,7 +3,7 @@ use mathlib.Core.Path.{sym}
 use Prim.Native.Nat.{_-_}
 use native.Mathlib.Omega.{arith}
 use borrow.Author.Needs.{needs}
-use Rattle.rules.proofs.Counts.{within-some, within-none, one-more}
+use Rattle.rules.proofs.TaskTrains.{within-some, within-none, one-more}
 use Rattle.trains.proofs.count_within.Statement.{statement}
 use Rattle.trains.proofs.count_within.Tie as tie
 

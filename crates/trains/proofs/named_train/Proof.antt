@@ -4,7 +4,7 @@ use Prim.Native.Nat.{ℕ}
 use native.Mathlib.Omega.{arith}
 use borrow.Author.Needs.{needs}
 use Rattle.rules.specs.declared.Train.{Train}
-use Rattle.rules.proofs.Counts.{nobody-train, blocker-train, other-train}
+use Rattle.rules.proofs.TaskTrains.{nobody-train, blocker-train, other-train}
 use Rattle.trains.proofs.named_train.Statement.{statement}
 use Rattle.trains.proofs.named_train.Tie as tie
 

@@ -1,6 +1,6 @@
 -- `trains::train_of` gives the train under a plan: by cases on the plan, as the definition goes.
 use borrow.Author.Needs.{needs}
-use Rattle.rules.proofs.Counts.{concrete-train}
+use Rattle.rules.proofs.TaskTrains.{concrete-train}
 use Rattle.trains.proofs.train_of.Statement.{statement}
 use Rattle.trains.proofs.train_of.Tie as tie
 

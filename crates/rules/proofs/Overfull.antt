@@ -12,7 +12,7 @@ use Rattle.rules.proofs.Booleans.{lt-or-ge}
 use Rattle.rules.proofs.Taken.{taken-mem}
 use Rattle.rules.proofs.Picked.{earliest-least}
 use Rattle.rules.proofs.Runs.{Run, done, step}
-use Rattle.rules.proofs.Count.{amount, total, total-taken, total-stays, since}
+use Rattle.rules.proofs.Loads.{amount, total, total-taken, total-stays, since}
 
 -- some row is late
 abbrev pub LateIn : List Row → Type 0

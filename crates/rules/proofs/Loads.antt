@@ -16,7 +16,7 @@ use Rattle.rules.specs.Demand.{countWithin, due, Due, ceiling, work}
 use Rattle.rules.proofs.Booleans.{both-true, lt-or-ge}
 use Rattle.rules.proofs.Taken.{Taken, now, later}
 use Rattle.rules.proofs.Legal.{taskAt-sound, legal-fits}
-use Rattle.rules.proofs.Rest.{Rest, rest-all, rest-here, rest-next}
+use Rattle.rules.proofs.TasksFrom.{Rest, rest-all, rest-here, rest-next}
 
 -- what a job that passes or fails a test adds to a total
 unfoldable pub amount : Bool → Job → ℕ

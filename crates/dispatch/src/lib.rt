@@ -15,9 +15,9 @@ use row::put_row;
 use rules::Plan;
 use rules::Refusal;
 use rules::ScheduleAnswer;
+use table::TASK_MOST;
 use table::task_at;
 use trains::train_of;
-use turn::TASK_MOST;
 use turn::choose;
 
 // Writes the rows of the n jobs that the arrays hold, four words a row, and says whether all were on time.

@@ -77,7 +77,7 @@ pub fn read_set<'a>(text: &'a [u8], table: &mut [u32], rest: &mut &'a [u8]) -> R
     if n < 1 {
         return ReadAnswer::Refused(Refusal::BadLine(1));
     }
-    if n > TASK_MOST {
+    if n > TASK_MOST as u32 {
         return ReadAnswer::Refused(Refusal::BadLine(1));
     }
     let m = 4 * n as usize;

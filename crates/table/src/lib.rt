@@ -10,9 +10,9 @@ use rules::TableAnswer;
 use rules::Task;
 
 // The most tasks, the most words of a table, and the greatest value of a word.
-pub const TASK_MOST: u32 = 64;
+pub const TASK_MOST: usize = 64;
 
-pub const TABLE_MOST: usize = 256;
+pub const TABLE_MOST: usize = 4 * TASK_MOST;
 
 const WORD_MOST: u32 = 65535;
 

@@ -6,10 +6,8 @@ ghost use Rattle.rules.specs.Table.{Valid};
 ghost use Rattle.turn.specs.Counters.{restFrom, Chosen, Best};
 use arith::greater;
 use arith::wide;
+use table::TASK_MOST;
 use table::task_at;
-
-// The most tasks.
-pub const TASK_MOST: usize = 64;
 
 // The next job to start: its task, its start and its deadline.
 pub struct Turn {

@@ -56,6 +56,9 @@ returns c =
 returns-2 : tie.Need-returns-2
 returns-2 c = calls.read-stops _ _ 1 (no-task _ _ _ (first-line (c .before)) (omega arith))
 
+cast-if2 : tie.Need-cast-if2
+cast-if2 c = search needs
+
 -- too many
 returns-3 : tie.Need-returns-3
 returns-3 c = calls.read-stops _ _ 1 (too-many _ _ _ (first-line (c .before .before)) (c .before .if1 .left) (omega arith))
@@ -127,6 +130,7 @@ read-set-spec =
     enum-told
     returns
     returns-2
+    cast-if2
     returns-3
     cast-m
     mul-m

@@ -1,4 +1,5 @@
 -- `output::output` meets its contract: a longer input gives its one line, and any other its sets.
+use native.Mathlib.Omega.{arith}
 use Rattle.output.proofs.Turns.{too-long}
 use borrow.Author.Needs.{needs}
 use Rattle.output.proofs.output.Statement.{statement}
@@ -16,7 +17,9 @@ same-length c = search needs
 returns : tie.Need-returns
 returns c =
     let after-put = c .before .before in
-    too-long _ _ (after-put .before .before .before .if1 .taken) (after-put .put-bytes .ensures)
+    let at-long = after-put .before .before .before in
+    let input = at-long .before .before .before .args .input .now in
+    too-long input _ (omega (arith, at-long .if1 .taken)) (after-put .put-bytes .ensures)
 
 put-sets-requires : tie.Need-put-sets-requires
 put-sets-requires c κs = search needs

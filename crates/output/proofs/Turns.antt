@@ -17,10 +17,10 @@ use Rattle.rules.proofs.Calls.{report-lines}
 use Rattle.rules.proofs.Printed.{rest-end, sets-last, sets-more, output-long, output-sets}
 use Rattle.rules.proofs.Lengths.{rest-fewer, lines-most}
 use Rattle.print.specs.Place.{Puts}
-use Rattle.output.specs.Output.{outputMost, Prints}
+use Rattle.output.specs.Output.{outputMost, Outputs}
 
 -- an input that is too long: its one line stands at the start
-pub too-long : (input old : List ℕ) {size : ℕ} {exit : List ℕ} → inputMost < length input → Puts old 0 (bytes "toolong" ++ (10 ∷ [])) size exit → Prints input old size exit
+pub too-long : (input old : List ℕ) {size : ℕ} {exit : List ℕ} → inputMost < length input → Puts old 0 (bytes "toolong" ++ (10 ∷ [])) size exit → Outputs input old size exit
 too-long input old h p =
     let e = output-long input h in
     record { says = p .says ∙ ap length (sym e); leaves = p .leaves ∙ ap (λ (l : List ℕ). l ++ drop (length l) old) (sym e) }
@@ -109,7 +109,7 @@ module _ (input old out : List ℕ) (number left at : ℕ) (so-far : SoFar input
       fuel = omega (arith, so-far .first, so-far .taken)
 
       -- nothing is left: that is the output
-      pub at-last : rest ≡ 0 → Prints input old (at + size) (take at out ++ (exit ++ drop (length out - at) (drop at out)))
+      pub at-last : rest ≡ 0 → Outputs input old (at + size) (take at out ++ (exit ++ drop (length out - at) (drop at out)))
       at-last z =
           let one = sets-last (length input + 2 - (number + 1)) number text (sym rest-is ∙ z) in
           let all : lines ≡ output input =

@@ -10,10 +10,10 @@ abbrev pub outputMost : ℕ
 outputMost = 91522
 
 -- the output of an input stands at the start of the lent bytes, which stay the same beyond it; the answer is its length
-pub record Prints (input out : List ℕ) (size : ℕ) (exit : List ℕ) : Type 0 where
+pub record Outputs (input out : List ℕ) (size : ℕ) (exit : List ℕ) : Type 0 where
   pub says : size ≡ length (output input)
   pub leaves : exit ≡ output input ++ drop (length (output input)) out
 
 -- two outcomes of one call are equal
 abbrev pub PrintsOne : Type 0
-PrintsOne = (input out : List ℕ) (m n : ℕ) (e f : List ℕ) → Prints input out m e → Prints input out n f → (m ≡ n) × (e ≡ f)
+PrintsOne = (input out : List ℕ) (m n : ℕ) (e f : List ℕ) → Outputs input out m e → Outputs input out n f → (m ≡ n) × (e ≡ f)

@@ -2,7 +2,7 @@
 ghost use Prim.Native.Nat.{_≤_};
 ghost use lib.ListN.{length};
 ghost use Rattle.rules.specs.Numbers.{inputMost};
-ghost use Rattle.output.specs.Output.{outputMost, Prints};
+ghost use Rattle.output.specs.Output.{outputMost, Outputs};
 use rules::ReportAnswer;
 
 // The longest input that is read set by set.
@@ -14,7 +14,7 @@ pub const OUTPUT_MOST: usize = 1366 * report::LINES_MOST;
 // The lines of all sets, each read from where the one before it ended, until nothing is left.
 fn put_sets(input: &[u8], out: &mut [u8]) -> usize
     requires { ⌜ (length (now input) ≤ inputMost) × (outputMost ≤ length (now out)) ⌝ }
-    ensures { λ r. ⌜ Prints (now (input .entry)) (now (out .entry)) r (now (out .exit)) ⌝ }
+    ensures { λ r. ⌜ Outputs (now (input .entry)) (now (out .entry)) r (now (out .exit)) ⌝ }
 {
     let mut number: u32 = 1;
     let mut left = input.len();
@@ -38,7 +38,7 @@ fn put_sets(input: &[u8], out: &mut [u8]) -> usize
 // THE PROGRAM'S OUTPUT for an input goes to the start of out; the answer is its length.
 pub fn output(input: &[u8], out: &mut [u8]) -> usize
     requires { ⌜ outputMost ≤ length (now out) ⌝ }
-    ensures { λ r. ⌜ Prints (now (input .entry)) (now (out .entry)) r (now (out .exit)) ⌝ }
+    ensures { λ r. ⌜ Outputs (now (input .entry)) (now (out .entry)) r (now (out .exit)) ⌝ }
 {
     if input.len() > INPUT_MOST {
         return print::put_bytes(out, 0, b"toolong\n");

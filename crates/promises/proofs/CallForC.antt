@@ -14,7 +14,7 @@ use Rattle.rules.specs.Answers.{firstAnswer, checkNumber}
 use Rattle.rules.proofs.Tables.{table-sound}
 use Rattle.rules.proofs.Calls.{check-number}
 use Rattle.promises.specs.Tables.{VerdictTells, FirstTells}
-use Rattle.promises.specs.Demands.{InTime, Read, CallSays, CallForC}
+use Rattle.promises.specs.Demands.{InTime, WasRead, CallSays, CallForC}
 use Rattle.promises.proofs.Exact.{fine-not}
 use Rattle.promises.proofs.Judged.{first-tells}
 use Rattle.promises.proofs.Kept.{in-time, makes-late}
@@ -44,7 +44,7 @@ call-says text = rw (check-number text) (told-says text (verdictTold (firstAnswe
 pub call-for-c : CallForC
 call-for-c = record { says = call-says; safe = λ text. go text (checkNumber text) (call-says text) }
   where
-    go : (text : List ℕ) (n : ℕ) → CallSays text n → n ≡ 100 → Read text (λ ts. (js : List Job) → Legal ts js → InTime js)
+    go : (text : List ℕ) (n : ℕ) → CallSays text n → n ≡ 100 → WasRead text (λ ts. (js : List Job) → Legal ts js → InTime js)
     go text n (CallSays.meets r) e = r
     go text n (CallSays.misses r) e = absurd (omega arith)
     go text n (CallSays.too-far r) e = absurd (omega arith)

@@ -167,18 +167,18 @@ pub record TrueOfEveryPattern : Type 0 where
   pub kept-by : (table : List ℕ) → KeptBy table (verdictAnswer table)
 
 -- THE C CALL in one sentence. Of a text whose first set was read and is in range, a statement about its tasks
-abbrev pub Read : List ℕ → (List Task → Type 0) → Type 0
-Read text P = (ws : List ℕ) × (after : List ℕ) × (readSet text ≡ took ws after) × Fine ws × P (tasksOf ws)
+abbrev pub WasRead : List ℕ → (List Task → Type 0) → Type 0
+WasRead text P = (ws : List ℕ) × (after : List ℕ) × (readSet text ≡ took ws after) × Fine ws × P (tasksOf ws)
 
 -- 100: every legal pattern is in time; 101: the named pattern makes a job late; 102 on its condition; else 4 or 7, and no other number
 pub data CallSays (text : List ℕ) : ℕ → Type 0 where
-  meets : Read text (λ ts. (js : List Job) → Legal ts js → InTime js) → CallSays text 100
-  misses : Read text (λ ts. (L : ℕ) × Least (λ K. fails K ts) L × MakesLate ts (named L ts)) → CallSays text 101
-  too-far : Read text (λ ts. None (λ K. fails K ts) × None (λ t. closes t ts)) → CallSays text 102
+  meets : WasRead text (λ ts. (js : List Job) → Legal ts js → InTime js) → CallSays text 100
+  misses : WasRead text (λ ts. (L : ℕ) × Least (λ K. fails K ts) L × MakesLate ts (named L ts)) → CallSays text 101
+  too-far : WasRead text (λ ts. None (λ K. fails K ts) × None (λ t. closes t ts)) → CallSays text 102
   bad-word : {ws after : List ℕ} {i : ℕ} → readSet text ≡ took ws after → FirstOut ws i → CallSays text 4
   bad-line : {l : ℕ} → readSet text ≡ stop l → CallSays text 7
 
 -- so it is for every text
 pub record CallForC : Type 0 where
   pub says : (text : List ℕ) → CallSays text (checkNumber text)
-  pub safe : (text : List ℕ) → checkNumber text ≡ 100 → Read text (λ ts. (js : List Job) → Legal ts js → InTime js)
+  pub safe : (text : List ℕ) → checkNumber text ≡ 100 → WasRead text (λ ts. (js : List Job) → Legal ts js → InTime js)

@@ -65,7 +65,7 @@ fn copy_words(from: &[u32], n: usize, to: &mut [u32])
 }
 
 // The first set of a text: its words go to the start of table, the bytes after it to rest.
-pub fn read_set<'a>(text: &'a [u8], table: &mut [u32], rest: &mut &'a [u8]) -> ReadAnswer
+fn read_set<'a>(text: &'a [u8], table: &mut [u32], rest: &mut &'a [u8]) -> ReadAnswer
     ensures { λ r. ⌜ Reads (now (text .entry)) (now (table .entry)) r (now (now (rest .exit))) (now (table .exit)) ⌝ }
 {
     *rest = text;

@@ -4,7 +4,6 @@ use mathlib.Core.Path.{_≡_, sym, _∙_}
 use Prim.Native.Nat.{ℕ, _+_, _≤_}
 use native.Mathlib.Omega.{arith}
 use borrow.Author.Needs.{needs}
-use borrow.Rule.Slice.PartMut.{same-len-mid}
 use lib.ListN.{length}
 use Rattle.output.proofs.Turns.{SoFar, at-first, fits, answers, size-most, rest-less, at-last, at-next}
 use Rattle.output.proofs.put_sets.Statement.{statement}

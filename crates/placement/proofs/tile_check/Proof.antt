@@ -1,7 +1,7 @@
 -- `placement::tile_check` meets its contract: a reading that is refused has the refusal's number, and the table has room for every set, so the set is
 -- refused so; of a set that is read, the number is that of the answer on its words.
-use mathlib.Core.Path.{_≡_, sym, ap, _∙_}
-use Prim.Native.Nat.{ℕ, _*_, _≤_}
+use mathlib.Core.Path.{sym, ap, _∙_}
+use Prim.Native.Nat.{_*_, _≤_}
 use native.Mathlib.Omega.{arith}
 use lib.ListN.{length}
 use lib.Seq.{length-take-le}

@@ -1,6 +1,7 @@
 -- `probe::probe_read` meets its contract: with room in out it tells what the call answered; without, it does nothing.
 use mathlib.Core.Path.{ap, ap₂, _∙_}
 use Prim.Native.Nat.{ℕ, _-_}
+use native.Mathlib.Omega.{arith}
 use mathlib.Core.List.{List}
 use lib.ListN.{length}
 use Rattle.told.specs.Sayings.{readProbed}
@@ -17,7 +18,10 @@ read-requires : tie.Need-read-requires
 read-requires c κs = search needs
 
 sub-used : tie.Need-sub-used
-sub-used c = rest-within _ _ (c .before .before .read .ensures .reads)
+sub-used c =
+    let after-read = c .before .before in
+    let a = after-read .before .before .before .before .before .before .before .before .args in
+    omega (arith, rest-within (a .text .now) (a .table .now) (after-read .read .ensures .reads))
 
 read-answer-requires : tie.Need-read-answer-requires
 read-answer-requires c κs = search needs

@@ -3,9 +3,9 @@
 use mathlib.Core.Path.{sym, ap, _∙_}
 use Prim.Native.Nat.{_*_, _≤_}
 use native.Mathlib.Omega.{arith}
-use lib.ListN.{length, replicate}
+use lib.ListN.{length}
 use lib.Seq.{length-take-le}
-use Rattle.rules.proofs.Reading.{Took, took-set}
+use Rattle.rules.proofs.Reading.{took-set}
 use Rattle.rules.proofs.First.{set-said, set-left, refusal-said, refusal-left}
 use borrow.Author.Needs.{needs}
 use Rattle.report.proofs.judge_first.Statement.{statement}

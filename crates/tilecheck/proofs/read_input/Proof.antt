@@ -2,7 +2,6 @@
 -- for so many, or spends one of the tries that are left until the next byte.
 use mathlib.Core.Path.{_≡_}
 use Prim.Native.Nat.{_+_, _-_, _*_, _≤_}
-use native.Mathlib.Omega.{arith}
 use lib.ListN.{length}
 use borrow.Author.Needs.{needs}
 use Rattle.tilecheck.proofs.read_input.Statement.{statement}

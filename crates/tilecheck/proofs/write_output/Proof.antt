@@ -1,7 +1,6 @@
 -- `tilecheck::write_output` meets its contract: what was written so far is a part of the bytes. It ends: each turn either writes a byte or spends one
 -- of the tries that are left until the next byte.
 use Prim.Native.Nat.{_+_, _-_, _*_, _≤_}
-use native.Mathlib.Omega.{arith}
 use lib.ListN.{length}
 use borrow.Author.Needs.{needs}
 use Rattle.tilecheck.proofs.write_output.Statement.{statement}

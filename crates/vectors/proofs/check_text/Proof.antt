@@ -1,3 +1,4 @@
+-- `vectors::check_text` ends, and what it lends of its buffer lies in it: the length of the text was tested.
 use mathlib.Core.Path.{sym}
 use native.Mathlib.Omega.{arith}
 use lib.Seq.{length-take-le}

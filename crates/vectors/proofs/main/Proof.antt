@@ -1,3 +1,4 @@
+-- `vectors::main` ends: each turn leaves one case fewer, and a case stands at each place below 12.
 use Prim.Native.Nat.{_-_, _≤_}
 use borrow.Author.Needs.{needs}
 use Rattle.vectors.proofs.main.Statement.{statement}

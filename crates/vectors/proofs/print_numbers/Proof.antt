@@ -1,3 +1,4 @@
+-- `vectors::print_numbers` ends: each turn leaves one number fewer.
 use Prim.Native.Nat.{_-_, _≤_}
 use lib.ListN.{length}
 use borrow.Author.Needs.{needs}

@@ -1,3 +1,4 @@
+-- `vectors::print_set` ends: each turn leaves four words fewer, and reads only words that are there.
 use Prim.Native.Nat.{_-_, _≤_}
 use lib.ListN.{length}
 use borrow.Author.Needs.{needs}

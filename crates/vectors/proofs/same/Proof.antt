@@ -1,3 +1,5 @@
+-- `vectors::same` meets its contract: the lists agree at each place before the loop's, and at the end at all; two lists of other lengths, or that
+-- differ at a place, are not the same.
 use mathlib.Core.Path.{_≡_, refl, ap}
 use Prim.Native.Nat.{ℕ, _-_, _<_, _≤_}
 use native.Mathlib.Omega.{arith}
@@ -51,9 +53,9 @@ loop-again c = (below-more _ _ (c .before .before .before .before .loop .inv .0)
 
 returns-3 : tie.Need-returns-3 Inv-loop μ-loop
 returns-3 c =
-    let w = c .before in
-    let n : w .loop .i ≡ length (w .before .before .args .a .now) = omega arith in
-    ((λ e. ext-getD 0 _ _ (w .before .if1 .left) (λ k h. w .loop .inv .0 k (omega arith))), (λ e. refl))
+    let at-end = c .before in
+    let n : at-end .loop .i ≡ length (at-end .before .before .args .a .now) = omega arith in
+    ((λ e. ext-getD 0 _ _ (at-end .before .if1 .left) (λ k h. at-end .loop .inv .0 k (omega arith))), (λ e. refl))
 
 pub same-spec : {M : Type 1} → statement M
 same-spec =

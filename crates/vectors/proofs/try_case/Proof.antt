@@ -1,3 +1,4 @@
+-- `vectors::try_case` ends, and lends a part of the case's eight words.
 use mathlib.Core.Path.{_≡_, sym}
 use native.Mathlib.Omega.{arith}
 use lib.ListN.{length}

@@ -15,5 +15,5 @@ pub record Outputs (input out : List ℕ) (size : ℕ) (exit : List ℕ) : Type 
   pub leaves : exit ≡ output input ++ drop (length (output input)) out
 
 -- two outcomes of one call are equal
-abbrev pub PrintsOne : Type 0
-PrintsOne = (input out : List ℕ) (m n : ℕ) (e f : List ℕ) → Outputs input out m e → Outputs input out n f → (m ≡ n) × (e ≡ f)
+abbrev pub OutputsOne : Type 0
+OutputsOne = (input out : List ℕ) (m n : ℕ) (e f : List ℕ) → Outputs input out m e → Outputs input out n f → (m ≡ n) × (e ≡ f)

@@ -4,20 +4,12 @@ use Prim.Native.Nat.{ℕ}
 use mathlib.Core.List.{List}
 use lib.Dec.{eqb}
 use Rattle.rules.specs.Choice.{if_then_else_}
-use Rattle.rules.specs.Text.{Lines, took, stop}
 use Rattle.rules.specs.Told.{numberTold, valueTold, readTold}
 use Rattle.rules.specs.Answers.{readAnswer}
 use Rattle.rules.specs.Calls.{Reads}
 use Rattle.rules.specs.declared.Refusal.the-variants.{TooShort, BadLine}
 use Rattle.rules.specs.declared.ReadAnswer.{ReadAnswer}
 use Rattle.rules.specs.declared.ReadAnswer.the-variants.{Set, Refused}
-use Rattle.reader.specs.declared.Scan.{Scan}
-use Rattle.reader.specs.declared.Scan.the-variants.{Whole, Stop}
-
--- what a scan of lines says, with the words and the bytes that it left
-abbrev pub scanned : Scan → List ℕ → List ℕ → Lines
-scanned Whole words rest = took words rest
-scanned (Stop l) words rest = stop l
 
 -- the answer that a number and a value stand for; the reader refuses by 6 and 7 alone
 unfoldable pub readAnswerOf : ℕ → ℕ → ReadAnswer

@@ -1,3 +1,2 @@
--- Laws of the report's parts, and of its outcome by the room that there is.
-mod Parts
+-- Laws of the report's outcome by the room that there is.
 mod Reported

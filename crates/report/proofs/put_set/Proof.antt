@@ -1,7 +1,7 @@
 -- `report::put_set` meets its contract: the line with the set's number, and after it the lines of the answer.
 use borrow.Author.Needs.{needs}
 use Rattle.rules.specs.Text.{bytes, digits, line}
-use Rattle.report.proofs.Parts.{first-fits, second-fits, both}
+use Rattle.print.proofs.Parts.{first-fits, second-fits, both}
 use Rattle.report.proofs.put_set.Statement.{statement}
 use Rattle.report.proofs.put_set.Tie as tie
 

@@ -6,7 +6,7 @@ use native.Mathlib.Omega.{arith}
 use lib.ListN.{length}
 use lib.Seq.{length-take-le}
 use Rattle.rules.proofs.Lengths.{said-most}
-use Rattle.report.proofs.Parts.{by-page}
+use Rattle.print.proofs.Parts.{by-page}
 use Rattle.report.proofs.Reported.{short, told}
 use borrow.Author.Needs.{needs}
 use Rattle.report.proofs.report.Statement.{statement}

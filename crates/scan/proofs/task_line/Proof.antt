@@ -1,8 +1,8 @@
--- `reader::task_line` meets its contract: the line is read with the part of the table of keys at twice the place, and that part is the key.
+-- `scan::task_line` meets its contract: the line is read with the part of the table of keys at twice the place, and that part is the key.
 use Rattle.rules.proofs.WriteSteps.{key-part}
 use borrow.Author.Needs.{needs}
-use Rattle.reader.proofs.task_line.Statement.{statement}
-use Rattle.reader.proofs.task_line.Tie as tie
+use Rattle.scan.proofs.task_line.Statement.{statement}
+use Rattle.scan.proofs.task_line.Tie as tie
 
 mul-read-line : tie.Need-mul-read-line
 mul-read-line c = search needs

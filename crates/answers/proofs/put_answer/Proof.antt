@@ -1,7 +1,7 @@
--- `report::put_answer` meets its contract: each arm puts the lines of the answer that it has found.
+-- `answers::put_answer` meets its contract: each arm puts the lines of the answer that it has found.
 use borrow.Author.Needs.{needs}
-use Rattle.report.proofs.put_answer.Statement.{statement}
-use Rattle.report.proofs.put_answer.Tie as tie
+use Rattle.answers.proofs.put_answer.Statement.{statement}
+use Rattle.answers.proofs.put_answer.Tie as tie
 
 enum-known-answer : tie.Need-enum-known-answer
 enum-known-answer c = search needs

@@ -1,7 +1,7 @@
--- `report::put_verdict` meets its contract: each arm puts the lines of the verdict that it has found.
+-- `answers::put_verdict` meets its contract: each arm puts the lines of the verdict that it has found.
 use borrow.Author.Needs.{needs}
-use Rattle.report.proofs.put_verdict.Statement.{statement}
-use Rattle.report.proofs.put_verdict.Tie as tie
+use Rattle.answers.proofs.put_verdict.Statement.{statement}
+use Rattle.answers.proofs.put_verdict.Tie as tie
 
 enum-known-verdict : tie.Need-enum-known-verdict
 enum-known-verdict c = search needs

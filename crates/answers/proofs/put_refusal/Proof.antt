@@ -1,10 +1,10 @@
--- `report::put_refusal` meets its contract: the line with the number, and after it the line of what is carried.
+-- `answers::put_refusal` meets its contract: the line with the number, and after it the line of what is carried.
 use Rattle.rules.specs.Refusals.{entry, carriedLine}
 use Rattle.rules.specs.Text.{bytes, digits, line}
-use Rattle.report.proofs.Parts.{first-fits, second-fits, both}
+use Rattle.print.proofs.Parts.{first-fits, second-fits, both}
 use borrow.Author.Needs.{needs}
-use Rattle.report.proofs.put_refusal.Statement.{statement}
-use Rattle.report.proofs.put_refusal.Tie as tie
+use Rattle.answers.proofs.put_refusal.Statement.{statement}
+use Rattle.answers.proofs.put_refusal.Tie as tie
 
 refusal-number-requires : tie.Need-refusal-number-requires
 refusal-number-requires c κs = search needs

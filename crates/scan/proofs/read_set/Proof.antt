@@ -1,4 +1,4 @@
--- `reader::read_set` meets its contract: each return is one of the ways in which a reading ends: the first line or a later one is not as due (7), the
+-- `scan::read_set` meets its contract: each return is one of the ways in which a reading ends: the first line or a later one is not as due (7), the
 -- table is too short for the words (6), or they are copied.
 use mathlib.Core.Path.{_≡_, sym, ap, _∙_}
 use Prim.Native.Nat.{ℕ, _*_, _/_}
@@ -10,14 +10,14 @@ use Rattle.rules.specs.Text.{got, tasksKey, readLine, readSet}
 use Rattle.rules.specs.declared.ReadAnswer.the-variants.{Set}
 use Rattle.lines.specs.Line.{seen}
 use Rattle.lines.specs.declared.Number.{Number}
-use Rattle.reader.specs.Reader.{scanned}
-use Rattle.reader.specs.declared.Scan.{Scan}
-use Rattle.reader.specs.declared.Scan.the-variants.{Whole}
+use Rattle.scan.specs.Scanned.{scanned}
+use Rattle.scan.specs.declared.Scan.{Scan}
+use Rattle.scan.specs.declared.Scan.the-variants.{Whole}
 use Rattle.rules.proofs.ReadSets.{no-first, no-task, too-many, some-tasks}
 use Rattle.rules.proofs.Calls as calls
 use borrow.Author.Needs.{needs}
-use Rattle.reader.proofs.read_set.Statement.{statement}
-use Rattle.reader.proofs.read_set.Tie as tie
+use Rattle.scan.proofs.read_set.Statement.{statement}
+use Rattle.scan.proofs.read_set.Tie as tie
 
 -- the first line, where it is a number
 first-line : (c : tie.After-known-told)

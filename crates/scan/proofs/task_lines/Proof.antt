@@ -1,4 +1,4 @@
--- `reader::task_lines` meets its contract: the words stored, put ahead of what reading the lines that are left gives, are at each turn what
+-- `scan::task_lines` meets its contract: the words stored, put ahead of what reading the lines that are left gives, are at each turn what
 -- reading all of them gives.
 use mathlib.Core.Path.{_≡_, refl, sym, ap, _∙_}
 use Prim.Native.Nat.{ℕ, _-_, _≤_}
@@ -9,8 +9,8 @@ use Rattle.lines.specs.Line.{seen}
 use Rattle.lines.specs.declared.Number.{Number}
 use Rattle.rules.proofs.ReadSets.{aheads, aheads-none, lines-done, lines-more, lines-wrong}
 use borrow.Author.Needs.{needs}
-use Rattle.reader.proofs.task_lines.Statement.{statement}
-use Rattle.reader.proofs.task_lines.Tie as tie
+use Rattle.scan.proofs.task_lines.Statement.{statement}
+use Rattle.scan.proofs.task_lines.Tie as tie
 
 abbrev Inv-loop : tie.InvT-loop
 Inv-loop s m words₀ rest t₀ k₀ words t k = (k ≤ m) × ((length words ≡ length words₀) × (aheads (take k words) (readLines (m - k) k t) ≡ readLines m 0 s))

@@ -1,8 +1,8 @@
--- `report::put_carried` meets its contract: each arm puts the line of what it has found, and nothing where there is nothing.
+-- `answers::put_carried` meets its contract: each arm puts the line of what it has found, and nothing where there is nothing.
 use borrow.Author.Needs.{needs}
-use Rattle.report.proofs.Parts.{nothing}
-use Rattle.report.proofs.put_carried.Statement.{statement}
-use Rattle.report.proofs.put_carried.Tie as tie
+use Rattle.print.proofs.Parts.{nothing}
+use Rattle.answers.proofs.put_carried.Statement.{statement}
+use Rattle.answers.proofs.put_carried.Tie as tie
 
 enum-known-carried : tie.Need-enum-known-carried
 enum-known-carried c = search needs

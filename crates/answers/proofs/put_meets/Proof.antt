@@ -1,9 +1,9 @@
--- `report::put_meets` meets its contract: its two lines, one after the other, are the lines of the verdict.
+-- `answers::put_meets` meets its contract: its two lines, one after the other, are the lines of the verdict.
 use borrow.Author.Needs.{needs}
 use Rattle.rules.specs.Text.{bytes, line}
-use Rattle.report.proofs.Parts.{first-fits, second-fits, both}
-use Rattle.report.proofs.put_meets.Statement.{statement}
-use Rattle.report.proofs.put_meets.Tie as tie
+use Rattle.print.proofs.Parts.{first-fits, second-fits, both}
+use Rattle.answers.proofs.put_meets.Statement.{statement}
+use Rattle.answers.proofs.put_meets.Tie as tie
 
 slice-aggregate-put-word-line : tie.Need-slice-aggregate-put-word-line
 slice-aggregate-put-word-line c = search needs

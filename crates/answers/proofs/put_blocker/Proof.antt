@@ -1,7 +1,7 @@
--- `report::put_blocker` meets its contract: each arm puts the line with the word of the blocker that it has found.
+-- `answers::put_blocker` meets its contract: each arm puts the line with the word of the blocker that it has found.
 use borrow.Author.Needs.{needs}
-use Rattle.report.proofs.put_blocker.Statement.{statement}
-use Rattle.report.proofs.put_blocker.Tie as tie
+use Rattle.answers.proofs.put_blocker.Statement.{statement}
+use Rattle.answers.proofs.put_blocker.Tie as tie
 
 enum-known-blocker : tie.Need-enum-known-blocker
 enum-known-blocker c = search needs

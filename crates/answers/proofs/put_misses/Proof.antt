@@ -1,13 +1,13 @@
--- `report::put_misses` meets its contract: its three lines, one after the other, are the lines of the verdict.
+-- `answers::put_misses` meets its contract: its three lines, one after the other, are the lines of the verdict.
 use Prim.Native.Nat.{_+_, _≤_}
 use mathlib.Core.List.{_++_}
 use lib.ListN.{length}
 use borrow.Author.Needs.{needs}
 use Rattle.rules.specs.Text.{bytes, digits, line}
 use Rattle.rules.specs.Report.{blockerWord}
-use Rattle.report.proofs.Parts.{first-fits, second-fits, both}
-use Rattle.report.proofs.put_misses.Statement.{statement}
-use Rattle.report.proofs.put_misses.Tie as tie
+use Rattle.print.proofs.Parts.{first-fits, second-fits, both}
+use Rattle.answers.proofs.put_misses.Statement.{statement}
+use Rattle.answers.proofs.put_misses.Tie as tie
 
 -- after the word there is room for the length and the blocker
 room : (after-word : tie.After-put-word-line)

@@ -1,0 +1,2 @@
+-- What the calls of the scan promise to each other.
+pub mod Scanned

@@ -5,7 +5,7 @@ use mathlib.Core.List.{List}
 use lib.ListN.{length}
 use borrow.Author.Tests.{lt-ltb, le-ltb}
 use Rattle.rules.specs.Told.{Told}
-use Rattle.told.specs.Sayings.{Gives}
+use Rattle.tell.specs.Gives.{Gives}
 use Rattle.probe.specs.Probe.{byRoom, Probes, ProbesOne}
 
 -- `out` is short, or it has room

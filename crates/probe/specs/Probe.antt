@@ -6,7 +6,7 @@ use lib.Dec.{ltb}
 use lib.ListN.{length}
 use Rattle.rules.specs.Choice.{if_then_else_}
 use Rattle.rules.specs.Told.{Told, numberTold}
-use Rattle.told.specs.Sayings.{valuesIn}
+use Rattle.tell.specs.Gives.{valuesIn}
 
 -- what is so where `out` is shorter than 4 words, and what otherwise
 unfoldable pub byRoom : {X : Type 0} → List ℕ → X → X → X

@@ -25,7 +25,7 @@ pub extern "C" fn probe_read(text: &[u8], table: &mut [u32], out: &mut [u64]) ->
     let mut number: u32 = 0;
     let rest = reader::read(text, table, &mut code, &mut number);
     let used = (text.len() - rest.len()) as u64;
-    told::tell(out, told::say_read(reader::read_answer(code, number), used))
+    tell::tell(out, told::say_read(reader::read_answer(code, number), used))
 }
 
 // The writer: 0 with the length.
@@ -37,7 +37,7 @@ pub extern "C" fn probe_write(table: &[u32], text: &mut [u8], out: &mut [u64]) -
     if out.len() < ROOM {
         return 999;
     }
-    told::tell(out, told::say_write(writer::write(table, text)))
+    tell::tell(out, told::say_write(writer::write(table, text)))
 }
 
 // The schedule: 200 on time with the row count; 201 late with the row count, task, job and deadline.
@@ -49,7 +49,7 @@ pub extern "C" fn probe_schedule(table: &[u32], z: u32, rows: &mut [u64], out: &
     if out.len() < ROOM {
         return 999;
     }
-    told::tell(out, told::say_schedule(schedule::schedule(table, z, rows)))
+    tell::tell(out, told::say_schedule(schedule::schedule(table, z, rows)))
 }
 
 // The verdict: 100 with the span; 101 with the length and the blocker, 2^64 - 1 for none; 102.
@@ -60,7 +60,7 @@ pub extern "C" fn probe_verdict(table: &[u32], out: &mut [u64]) -> u32
     if out.len() < ROOM {
         return 999;
     }
-    told::tell(out, told::say_verdict(verdict::verdict(table)))
+    tell::tell(out, told::say_verdict(verdict::verdict(table)))
 }
 
 // The pattern: 0 with the row count.
@@ -72,5 +72,5 @@ pub extern "C" fn probe_pattern(table: &[u32], rows: &mut [u64], out: &mut [u64]
     if out.len() < ROOM {
         return 999;
     }
-    told::tell(out, told::say_pattern(pattern::pattern(table, rows)))
+    tell::tell(out, told::say_pattern(pattern::pattern(table, rows)))
 }

@@ -1,8 +1,6 @@
 -- What is told of each answer: the rules' number and values, with two values that are the probe's own.
-use mathlib.Core.Path.{_≡_}
 use Prim.Native.Nat.{ℕ}
 use mathlib.Core.List.{List, [], _∷_, _++_}
-use lib.ListN.{length, drop}
 use Rattle.rules.specs.Told.{Told, _with_, numberTold, valuesTold, readTold, judgedTold, verdictTold}
 use Rattle.rules.specs.declared.Blocker.{Blocker}
 use Rattle.rules.specs.declared.Verdict.{Verdict}
@@ -39,12 +37,3 @@ verdictProbed (VerdictAnswer.Judged (Verdict.Meets σ)) = judgedTold (Verdict.Me
 verdictProbed (VerdictAnswer.Judged (Verdict.Misses L b)) = missesProbed L b
 verdictProbed (VerdictAnswer.Judged Verdict.TooFar) = judgedTold Verdict.TooFar
 verdictProbed (VerdictAnswer.Refused r) = verdictTold (VerdictAnswer.Refused r)
-
--- a buffer with the values at the start, and beyond them the same
-abbrev pub valuesIn : Told → List ℕ → List ℕ
-valuesIn t old = valuesTold t ++ drop (length (valuesTold t)) old
-
--- something is told: the number returned, and `out` at exit
-pub record Gives (told : Told) (out : List ℕ) (number : ℕ) (exit : List ℕ) : Type 0 where
-  pub says : number ≡ numberTold told
-  pub leaves : exit ≡ valuesIn told out

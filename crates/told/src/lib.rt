@@ -1,10 +1,7 @@
 // Each answer told as a number with values, in code; rules/specs/Told.antt has the same as definitions. For the probe.
 ghost use mathlib.Core.Path.{_≡_};
-ghost use Prim.Native.Nat.{_≤_};
-ghost use mathlib.Core.List.{_++_};
-ghost use lib.ListN.{length, drop};
 ghost use Rattle.rules.specs.Told.{refusalTold, writeTold, scheduleTold, patternTold};
-ghost use Rattle.told.specs.Sayings.{said, Gives, readProbed, missesProbed, verdictProbed};
+ghost use Rattle.told.specs.Sayings.{said, readProbed, missesProbed, verdictProbed};
 use rules::Blocker;
 use rules::Carried;
 use rules::PatternAnswer;
@@ -113,39 +110,5 @@ pub fn say_pattern(answer: PatternAnswer) -> Saying
     match answer {
         PatternAnswer::Rows(n) => Saying::One(0, n),
         PatternAnswer::Refused(r) => say_refusal(r),
-    }
-}
-
-// Values go to the start of out.
-fn put(out: &mut [u64], values: &[u64])
-    requires { ⌜ length (now values) ≤ length (now out) ⌝ }
-    ensures { λ _. ⌜ now (out .exit) ≡ now (values .entry) ++ drop (length (now (values .entry))) (now (out .entry)) ⌝ }
-{
-    let mut i: usize = 0;
-    while i < values.len() {
-        out[i] = values[i];
-        i += 1;
-    }
-}
-
-// What is said: the number is returned, the values go to the start of out.
-pub fn tell(out: &mut [u64], saying: Saying) -> u32
-    requires { ⌜ 4 ≤ length (now out) ⌝ }
-    ensures { λ n. ⌜ Gives (said saying) (now (out .entry)) n (now (out .exit)) ⌝ }
-{
-    match saying {
-        Saying::Bare(n) => n,
-        Saying::One(n, a) => {
-            put(out, &[a]);
-            n
-        }
-        Saying::Two(n, a, b) => {
-            put(out, &[a, b]);
-            n
-        }
-        Saying::Four(n, a, b, c, d) => {
-            put(out, &[a, b, c, d]);
-            n
-        }
     }
 }

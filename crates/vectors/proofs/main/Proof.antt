@@ -1,58 +1,58 @@
--- `vectors::main` ends: each turn leaves one case fewer, and a case stands at each place below 12.
-use Prim.Native.Nat.{_-_, _≤_}
+-- `vectors::main` meets its contract, which says only that it ends: there is room for every output, and what is written is a part of the room.
+use mathlib.Core.Path.{sym}
+use Prim.Native.Nat.{_≤_}
+use lib.ListN.{length}
+use lib.Seq.{length-take-le}
 use borrow.Author.Needs.{needs}
+use Rattle.output.proofs.Outcome.{prints-within}
 use Rattle.vectors.proofs.main.Statement.{statement}
 use Rattle.vectors.proofs.main.Tie as tie
 
-abbrev Inv-loop : tie.InvT-loop
-Inv-loop i₀ i = i ≤ 12
+-- the output lies in its room
+in-room : (c : tie.After-output) → c .output .result ≤ length (c .output .last .1 .0)
+in-room c = prints-within (c .output .ensures)
 
-abbrev μ-loop : tie.MeasureT-loop
-μ-loop i₀ i = 12 - i
+slice-aggregate-read-full : tie.Need-slice-aggregate-read-full
+slice-aggregate-read-full c = search needs
 
-loop-holds : tie.Need-loop-holds Inv-loop μ-loop
-loop-holds c = search needs
+read-full-requires : tie.Need-read-full-requires
+read-full-requires c κs = search needs
 
-mul-try-case : tie.Need-mul-try-case Inv-loop μ-loop
-mul-try-case c = search needs
+array-share-prefix-input : tie.Need-array-share-prefix-input
+array-share-prefix-input c = search needs
 
-array-copy-out-try-case : tie.Need-array-copy-out-try-case Inv-loop μ-loop
-array-copy-out-try-case c = search needs
+slice-aggregate-output : tie.Need-slice-aggregate-output
+slice-aggregate-output c = search needs
 
-try-case-requires : tie.Need-try-case-requires Inv-loop μ-loop
-try-case-requires c κs = search needs
+slice-aggregate-output-2 : tie.Need-slice-aggregate-output-2
+slice-aggregate-output-2 c = search needs
 
-add-i : tie.Need-add-i Inv-loop μ-loop
-add-i c = search needs
+output-requires : tie.Need-output-requires
+output-requires c κs = search needs
 
-loop-less : tie.Need-loop-less Inv-loop μ-loop
-loop-less c = search needs
+array-share-prefix-out : tie.Need-array-share-prefix-out
+array-share-prefix-out c = in-room (c .before)
 
-loop-again : tie.Need-loop-again Inv-loop μ-loop
-loop-again c = search needs
+slice-aggregate-write-all : tie.Need-slice-aggregate-write-all
+slice-aggregate-write-all c = sym (length-take-le _ _ (in-room (c .before .before)))
 
-try-schedule-requires : tie.Need-try-schedule-requires Inv-loop μ-loop
-try-schedule-requires c κs = search needs
+write-all-requires : tie.Need-write-all-requires
+write-all-requires c κs = search needs
 
-try-pattern-requires : tie.Need-try-pattern-requires Inv-loop μ-loop
-try-pattern-requires c κs = search needs
-
-returns : tie.Need-returns Inv-loop μ-loop
+returns : tie.Need-returns
 returns c = search needs
 
 pub main-spec : {M : Type 1} → statement M
 main-spec =
     tie.close
     (tie.spec
-    Inv-loop
-    μ-loop
-    loop-holds
-    mul-try-case
-    array-copy-out-try-case
-    try-case-requires
-    add-i
-    loop-less
-    loop-again
-    try-schedule-requires
-    try-pattern-requires
+    slice-aggregate-read-full
+    read-full-requires
+    array-share-prefix-input
+    slice-aggregate-output
+    slice-aggregate-output-2
+    output-requires
+    array-share-prefix-out
+    slice-aggregate-write-all
+    write-all-requires
     returns)

@@ -1,4 +1,4 @@
--- `told::put` meets its contract: after i turns the first i values stand at the start of out.
+-- `tell::put` meets its contract: after i turns the first i values stand at the start of out.
 use mathlib.Core.Path.{_≡_, refl, _∙_}
 use Prim.Native.Nat.{_-_, _≤_}
 use native.Mathlib.Omega.{arith}
@@ -7,8 +7,8 @@ use lib.ListN.{length, take, drop, length-set}
 use lib.Seq.{take-length}
 use borrow.Author.Needs.{needs}
 use Rattle.rules.proofs.Slices.{copied}
-use Rattle.told.proofs.put.Statement.{statement}
-use Rattle.told.proofs.put.Tie as tie
+use Rattle.tell.proofs.put.Statement.{statement}
+use Rattle.tell.proofs.put.Tie as tie
 
 abbrev Inv-loop : tie.InvT-loop
 Inv-loop out₀ values i₀ out i = (i ≤ length values) × ((out ≡ take i values ++ drop i out₀) × (length out ≡ length out₀))

@@ -1,8 +1,8 @@
--- `told::tell` meets its contract: each arm puts the values of what it has found at the start, and returns its number.
+-- `tell::tell` meets its contract: each arm puts the values of what it has found at the start, and returns its number.
 use mathlib.Core.Path.{refl}
 use borrow.Author.Needs.{needs}
-use Rattle.told.proofs.tell.Statement.{statement}
-use Rattle.told.proofs.tell.Tie as tie
+use Rattle.tell.proofs.tell.Statement.{statement}
+use Rattle.tell.proofs.tell.Tie as tie
 
 enum-known-saying : tie.Need-enum-known-saying
 enum-known-saying c = search needs

@@ -1,0 +1,2 @@
+-- What is promised of a telling.
+pub mod Gives

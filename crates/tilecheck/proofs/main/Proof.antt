@@ -4,8 +4,8 @@ use Prim.Native.Nat.{_<_}
 use native.Mathlib.Omega.{arith}
 use lib.ListN.{length}
 use lib.Seq.{length-take-le}
-use Rattle.tilecheck.specs.Input.{Within}
-use Rattle.tilecheck.specs.declared.Input.{Input}
+use Rattle.stdio.specs.Input.{Within}
+use Rattle.stdio.specs.declared.Input.{Input}
 use borrow.Author.Needs.{needs}
 use Rattle.tilecheck.proofs.main.Statement.{statement}
 use Rattle.tilecheck.proofs.main.Tie as tie

@@ -1,11 +1,11 @@
--- `tilecheck::read_input` meets its contract: what was read so far lies in the buffer. It ends: each turn either reads a byte, of which there is room
+-- `stdio::read_input` meets its contract: what was read so far lies in the buffer. It ends: each turn either reads a byte, of which there is room
 -- for so many, or spends one of the tries that are left until the next byte.
 use mathlib.Core.Path.{_≡_}
 use Prim.Native.Nat.{_+_, _-_, _*_, _≤_}
 use lib.ListN.{length}
 use borrow.Author.Needs.{needs}
-use Rattle.tilecheck.proofs.read_input.Statement.{statement}
-use Rattle.tilecheck.proofs.read_input.Tie as tie
+use Rattle.stdio.proofs.read_input.Statement.{statement}
+use Rattle.stdio.proofs.read_input.Tie as tie
 
 abbrev Inv-loop : tie.InvT-loop
 Inv-loop buf₀ at₀ tries₀ buf at tries = (at ≤ length buf) × ((length buf ≡ length buf₀) × (tries ≤ 10000000))

@@ -1,10 +1,10 @@
--- `tilecheck::write_output` meets its contract: what was written so far is a part of the bytes. It ends: each turn either writes a byte or spends one
+-- `stdio::write_output` meets its contract: what was written so far is a part of the bytes. It ends: each turn either writes a byte or spends one
 -- of the tries that are left until the next byte.
 use Prim.Native.Nat.{_+_, _-_, _*_, _≤_}
 use lib.ListN.{length}
 use borrow.Author.Needs.{needs}
-use Rattle.tilecheck.proofs.write_output.Statement.{statement}
-use Rattle.tilecheck.proofs.write_output.Tie as tie
+use Rattle.stdio.proofs.write_output.Statement.{statement}
+use Rattle.stdio.proofs.write_output.Tie as tie
 
 abbrev Inv-loop : tie.InvT-loop
 Inv-loop bytes at₀ tries₀ at tries = (at ≤ length bytes) × (tries ≤ 10000000)

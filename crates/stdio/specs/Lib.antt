@@ -1,0 +1,2 @@
+-- What the calls on standard input promise.
+pub mod Input

@@ -1,2 +1,0 @@
--- What the calls of the program promise to each other.
-pub mod Input

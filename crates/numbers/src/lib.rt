@@ -1,7 +1,6 @@
 // The paper's number of each refusal and of each verdict, in code; rules/specs has the same as definitions.
 ghost use mathlib.Core.Path.{_≡_};
-ghost use lib.ListN.{getD};
-ghost use Rattle.rules.specs.Refusals.{entry, carriedValues};
+ghost use Rattle.rules.specs.Refusals.{entry};
 ghost use Rattle.rules.specs.Told.{numberTold, judgedTold};
 use rules::Carried;
 use rules::Refusal;
@@ -31,17 +30,6 @@ pub fn refusal_carries(r: Refusal) -> Carried
         Refusal::OutOfRange(i) => Carried::Word(i),
         Refusal::BadLine(l) => Carried::Line(l),
         _ => Carried::Nothing,
-    }
-}
-
-// The value in what is carried, 0 where nothing is.
-pub fn carried_value(c: Carried) -> u32
-    ensures { λ v. ⌜ v ≡ getD (carriedValues c) 0 0 ⌝ }
-{
-    match c {
-        Carried::Nothing => 0,
-        Carried::Word(i) => i,
-        Carried::Line(l) => l,
     }
 }
 

@@ -1,7 +1,10 @@
 // THE READER: the first set of a text, the rest handed back, the answer in two numbers.
 ghost use mathlib.Core.Path.{_≡_};
+ghost use lib.ListN.{getD};
+ghost use Rattle.rules.specs.Refusals.{carriedValues};
 ghost use Rattle.rules.specs.Told.{numberTold, valueTold, readTold};
 ghost use Rattle.reader.specs.Reader.{readAnswerOf, Returns};
+use rules::Carried;
 use rules::ReadAnswer;
 use rules::Refusal;
 use scan::read_set;
@@ -16,6 +19,17 @@ fn code_of(answer: ReadAnswer) -> u32
     }
 }
 
+// The value in what is carried, 0 where nothing is.
+fn carried_value(c: Carried) -> u32
+    ensures { λ v. ⌜ v ≡ getD (carriedValues c) 0 0 ⌝ }
+{
+    match c {
+        Carried::Nothing => 0,
+        Carried::Word(i) => i,
+        Carried::Line(l) => l,
+    }
+}
+
 // The second: the task count, or what the refusal carries.
 fn number_in(answer: ReadAnswer) -> u32
     ensures { λ r. ⌜ r ≡ valueTold (readTold answer) ⌝ }
@@ -24,7 +38,7 @@ fn number_in(answer: ReadAnswer) -> u32
         ReadAnswer::Set(n) => n,
         ReadAnswer::Refused(r) => {
             let carried = numbers::refusal_carries(r);
-            numbers::carried_value(carried)
+            carried_value(carried)
         }
     }
 }

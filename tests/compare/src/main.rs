@@ -19,7 +19,7 @@ use std::process::ExitCode;
 use tally::Tally;
 
 const SEED: u64 = 2516;
-const ROUNDS: usize = 4000;
+const ROUNDS: usize = 3000;
 
 fn main() -> ExitCode {
     let Some(rounds) = rounds_asked_for() else {

@@ -1,3 +1,2 @@
 -- Laws of a row's four stores and of the late job that is held.
-pub mod Fours
 pub mod Held

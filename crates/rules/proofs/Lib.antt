@@ -49,5 +49,7 @@ pub mod Reading
 pub mod Printed
 pub mod Lengths
 pub mod First
+-- the sets drawn from a seed
+pub mod Drawn
 -- the starred sets
 pub mod Stars

@@ -14,4 +14,5 @@ pub mod Demand
 pub mod Answers
 pub mod Report
 pub mod Calls
+pub mod Generator
 pub mod Stars

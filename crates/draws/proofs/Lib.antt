@@ -1,0 +1,2 @@
+-- Laws of the loop that fills a table.
+pub mod Filling

@@ -107,6 +107,11 @@ pub record DrawsSet (s number : ℕ) (table : List ℕ) (answer : ReadAnswer) (a
   pub moves : after ≡ drawState s number table
   pub leaves : exit ≡ drawTable s number table
 
+-- the state after n sets
+unfoldable pub stateAfterSets : ℕ → ℕ → ℕ
+stateAfterSets zero s = s
+stateAfterSets (suc n) s = stateAfterSets n (stateAfterSet s)
+
 -- THE PROGRAM. The texts of n sets, numbered from k on, each drawn from the state that the one before it left
 unfoldable pub generated : ℕ → ℕ → ℕ → List ℕ
 generated zero k s = []

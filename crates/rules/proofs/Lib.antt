@@ -52,5 +52,6 @@ pub mod First
 -- the sets drawn from a seed
 pub mod Drawn
 pub mod DrawnFine
+pub mod DrawnSets
 -- the starred sets
 pub mod Stars

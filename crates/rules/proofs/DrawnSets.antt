@@ -116,13 +116,13 @@ pub set-only : {σ ρ : ℕ → ℕ} → ((k : ℕ) → σ k ≡ ρ k) → (ts u
 set-only {σ} {ρ} same ts us A B =
     let n : length ts ≡ length us = A .count ∙ ap (λ (x : ℕ). 1 + x / 65536 % 8) (same 1) ∙ sym (B .count) in
     tasks-equal ts us n (λ i h.
-        let g : i < length us = omega arith in
-        let t : taskAt ts i .T ≡ taskAt us i .T = A .T-drawn i h ∙ ap (λ (x : ℕ). 1 + x / 65536 % 1000) (same (4 * i + 2)) ∙ sym (B .T-drawn i g) in
-        task-equal
-        (A .C-drawn i h ∙ ap₂ (λ (x y : ℕ). 1 + x / 65536 % y) (same (4 * i + 3)) t ∙ sym (B .C-drawn i g))
-        (A .D-drawn i h ∙ ap (λ (x : ℕ). 1 + x / 65536 % 2000) (same (4 * i + 4)) ∙ sym (B .D-drawn i g))
-        t
-        (A .R-drawn i h ∙ ap (λ (x : ℕ). x / 65536 % 1000) (same (4 * i + 5)) ∙ sym (B .R-drawn i g)))
+    let g : i < length us = omega arith in
+    let t : taskAt ts i .T ≡ taskAt us i .T = A .T-drawn i h ∙ ap (λ (x : ℕ). 1 + x / 65536 % 1000) (same (4 * i + 2)) ∙ sym (B .T-drawn i g) in
+    task-equal
+    (A .C-drawn i h ∙ ap₂ (λ (x y : ℕ). 1 + x / 65536 % y) (same (4 * i + 3)) t ∙ sym (B .C-drawn i g))
+    (A .D-drawn i h ∙ ap (λ (x : ℕ). 1 + x / 65536 % 2000) (same (4 * i + 4)) ∙ sym (B .D-drawn i g))
+    t
+    (A .R-drawn i h ∙ ap (λ (x : ℕ). x / 65536 % 1000) (same (4 * i + 5)) ∙ sym (B .R-drawn i g)))
 
 -- THE LONG KERNEL
 -- the last of some tasks, number k, is the long kernel; d is the least D of those before them
@@ -215,8 +215,8 @@ long-put (τ ∷ υ ∷ ts) (suc k) n h =
 pub long-only : (ts us vs : List Task) (k : ℕ) → length ts ≡ suc k → LongAt k ts us → LongAt k ts vs → us ≡ vs
 long-only ts us vs k n A B =
     tasks-equal us vs (A .as-many ∙ sym (B .as-many)) (λ i h. split (suc i) k (λ l. A .others i l ∙ sym (B .others i l)) (λ l.
-        let e : k ≡ i = omega (arith, A .as-many) in
-        subst (λ (j : ℕ). taskAt us j ≡ taskAt vs j) e same))
+    let e : k ≡ i = omega (arith, A .as-many) in
+    subst (λ (j : ℕ). taskAt us j ≡ taskAt vs j) e same))
   where
     other : (i : ℕ) → i < k → taskAt us i .D ≡ taskAt vs i .D
     other i l = ap (λ (τ : Task). τ .D) (A .others i l ∙ sym (B .others i l))

@@ -53,5 +53,6 @@ pub mod First
 pub mod Drawn
 pub mod DrawnFine
 pub mod DrawnSets
+pub mod LongKernel
 -- the starred sets
 pub mod Stars

@@ -3,12 +3,12 @@ use mathlib.Core.Path.{_≡_, refl, sym, ap, ap₂, subst, _∙_}
 use Prim.Native.Nat.{ℕ, zero, suc, _+_, _-_, _*_, _/_, _%_, _≤_, _<_, min}
 use native.Mathlib.Nat.{zero-add, add-zero}
 use native.Mathlib.Omega.{arith}
-use mathlib.Core.Logic.{_⊎_, inl, inr}
+use mathlib.Core.Logic.{_⊎_, inl, inr, _↔_}
 use mathlib.Core.List.{List, [], _∷_}
 use lib.ListN.{length}
 use borrow.Author.Tests.{eq-eqb, ne-eqb}
 use Rattle.rules.specs.Task.{tasksOf, taskAt}
-use Rattle.rules.specs.Generator.{nextState, drawn, stateAfter, countDrawn, taskDrawn, tasksDrawn, longKernel, lastLong, withLong, setDrawn, stateAfterSet, wordsOf}
+use Rattle.rules.specs.Generator.{nextState, drawn, stateAfter, countDrawn, taskDrawn, tasksDrawn, longKernel, lastLong, withLong, setDrawn, stateAfterSet, wordsOf, Draws}
 use Rattle.rules.specs.DrawnSets.{States, SetOf, LongAt, FromSeed}
 use Rattle.rules.specs.declared.Task.{Task}
 use Rattle.rules.proofs.Booleans.{split}
@@ -37,6 +37,14 @@ states-next k s =
 next-once : (s : ℕ) → nextState s ≡ (1664525 * s + 1013904223) % 4294967296
 unfolding nextState
 next-once s = omega arith
+
+-- a draw, in the paper's figures
+pub draw-when : (s n after : ℕ) → Draws s n after ↔ ((after ≡ (1664525 * s + 1013904223) % 4294967296) × (n ≡ after / 65536))
+unfolding drawn
+draw-when s n after = (
+  λ d. (d .moves ∙ next-once s, d .says ∙ ap (λ (x : ℕ). x / 65536) (sym (d .moves))),
+  λ p. let e : after ≡ nextState s = p .0 ∙ sym (next-once s) in record { says = p .1 ∙ ap (λ (x : ℕ). x / 65536) e; moves = e },
+)
 
 pub states-drawn : (s : ℕ) → States s (λ k. stateAfter k s)
 states-drawn s = record { first = state-none s; next = λ k. states-next k s ∙ next-once (stateAfter k s) }
@@ -270,12 +278,12 @@ module _ (s number : ℕ) where
       multiple h =
           split (length (tasksOfSet s)) 1
           (λ l.
-              let n : length (tasksOfSet s) ≡ 1 = omega (arith, count-is, count-low s) in
-              there (long-is h ∙ one-stays (tasksOfSet s) n) (FromSeed.as-drawn (states-drawn s) (set-drawn s) (inr n)))
+          let n : length (tasksOfSet s) ≡ 1 = omega (arith, count-is, count-low s) in
+          there (long-is h ∙ one-stays (tasksOfSet s) n) (FromSeed.as-drawn (states-drawn s) (set-drawn s) (inr n)))
           (λ l.
-              let k : ℕ = length (tasksOfSet s) - 1 in
-              let n : length (tasksOfSet s) ≡ suc k = omega arith in
-              there (long-is h) (FromSeed.with-long (states-drawn s) (set-drawn s) h (omega arith) n (long-put (tasksOfSet s) k n (omega arith))))
+          let k : ℕ = length (tasksOfSet s) - 1 in
+          let n : length (tasksOfSet s) ≡ suc k = omega arith in
+          there (long-is h) (FromSeed.with-long (states-drawn s) (set-drawn s) h (omega arith) n (long-put (tasksOfSet s) k n (omega arith))))
 
   -- and the paper has nothing else
   pub seed-only : {us : List Task} {after : ℕ} → FromSeed s number us after → (us ≡ setDrawn number s) × (after ≡ stateAfterSet s)
@@ -290,9 +298,10 @@ module _ (s number : ℕ) where
           (λ l. long-is (omega arith) ∙ one-stays (tasksOfSet s) (sym (ap (λ (us : List Task). length us) e) ∙ n))
           (λ l. plain-is (λ h. omega arith))
   seed-only (FromSeed.with-long {σ = σ} {ts = ts} {us = us} {k = k} S D h low n L) =
-      let e : ts ≡ tasksOfSet s = set-only (states-only S) ts (tasksOfSet s) D (set-drawn s) in
-      (long-only ts us (withLong ts) k n L (long-put ts k n low) ∙ ap withLong e ∙ sym (long-is h),
-      states-only S (1 + 4 * length ts) ∙ ap (λ (us : List Task). stateAfter (1 + 4 * length us) s) e ∙ after-is)
+      let e : ts ≡ tasksOfSet s = set-only (states-only S) ts (tasksOfSet s) D (set-drawn s) in (
+        long-only ts us (withLong ts) k n L (long-put ts k n low) ∙ ap withLong e ∙ sym (long-is h),
+        states-only S (1 + 4 * length ts) ∙ ap (λ (us : List Task). stateAfter (1 + 4 * length us) s) e ∙ after-is,
+      )
 
 -- THE WORDS
 -- a table's tasks, back from their words

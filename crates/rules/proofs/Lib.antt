@@ -54,5 +54,6 @@ pub mod Drawn
 pub mod DrawnFine
 pub mod DrawnSets
 pub mod LongKernel
+pub mod DrawnTexts
 -- the starred sets
 pub mod Stars

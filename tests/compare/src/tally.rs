@@ -33,7 +33,7 @@ const KNOWN: [(&str, &[&str], &[&str]); 12] = [
        "R of 999", "6 with no table", "6 by one word"]),
     ("a state carried on by draws", &["0"], &[]),
     ("a state carried on by sets", &["0", "6"], &[]),
-    ("generate, then judge", &["not refused"], &[]),
+    ("generate, then judge", &["a verdict, and the right one"], &[]),
     ("write, then read", &["the numbers came back"], &[]),
     ("read, then write", &["the bytes came back"], &[]),
 ];

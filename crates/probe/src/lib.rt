@@ -6,8 +6,11 @@ ghost use Prim.Native.Nat.{_-_};
 ghost use lib.ListN.{length};
 ghost use Rattle.rules.specs.Answers.{readAnswer, readTable, readRest, writeAnswer, writeBuffer, scheduleAnswer, scheduleBuffer, verdictAnswer, patternAnswer, patternBuffer};
 ghost use Rattle.rules.specs.Told.{writeTold, scheduleTold, patternTold};
-ghost use Rattle.told.specs.Sayings.{readProbed, verdictProbed};
+ghost use Rattle.rules.specs.Generator.{nextState, drawn, drawAnswer, drawState, drawTable};
+ghost use Rattle.told.specs.Sayings.{readProbed, verdictProbed, drawProbed, setProbed};
 ghost use Rattle.probe.specs.Probe.{Probes, byRoom};
+use generator::Generator;
+use told::Saying;
 
 // How many words an out must have.
 const ROOM: usize = 4;
@@ -73,4 +76,30 @@ pub extern "C" fn probe_pattern(table: &[u32], rows: &mut [u64], out: &mut [u64]
         return 999;
     }
     tell::tell(out, told::say_pattern(pattern::pattern(table, rows)))
+}
+
+// A draw: 0 with the number drawn and the state after it.
+#[no_mangle]
+pub extern "C" fn probe_draw(state: u32, out: &mut [u64]) -> u32
+    ensures { λ n. ⌜ Probes (drawProbed (drawn state) (nextState state)) (now (out .entry)) n (now (out .exit)) ⌝ }
+{
+    if out.len() < ROOM {
+        return 999;
+    }
+    let drawn = generator::draw_value(Generator { state: state });
+    tell::tell(out, Saying::Two(0, drawn.number as u64, drawn.after.state as u64))
+}
+
+// A set drawn: 0 with the task count and the state after it; 6 with the state.
+#[no_mangle]
+pub extern "C" fn probe_generate(state: u32, number: u32, table: &mut [u32], out: &mut [u64]) -> u32
+    ensures told { λ n. ⌜ Probes (setProbed (drawAnswer state number (now (table .entry))) (drawState state number (now (table .entry)))) (now (out .entry)) n (now (out .exit)) ⌝ }
+    ensures filled { λ _. ⌜ now (table .exit) ≡ byRoom (now (out .entry)) (now (table .entry)) (drawTable state number (now (table .entry))) ⌝ }
+{
+    if out.len() < ROOM {
+        return 999;
+    }
+    let drawn = generator::draw_set_value(Generator { state: state }, number, table);
+    let answer = drawn.answer;
+    tell::tell(out, told::say_set(answer, drawn.after.state))
 }

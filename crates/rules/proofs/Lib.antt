@@ -51,5 +51,6 @@ pub mod Lengths
 pub mod First
 -- the sets drawn from a seed
 pub mod Drawn
+pub mod Generated
 -- the starred sets
 pub mod Stars

@@ -53,13 +53,14 @@ module _ (s₀ n : ℕ) (asked : Bool) (table₀ : List ℕ) (d₀ : ℕ) where
 
     there-length : length there ≡ 4 * i
     there-length =
-        omega
-        (arith,
-        length-append (take 4 table₀) (wordsOf (F .done)),
-        length-take-le 4 table₀ (omega (arith, F .fits, F .low, F .most)),
-        length-wordsOf (F .done),
-        F .count,
-        F .low)
+        omega (
+          arith,
+          length-append (take 4 table₀) (wordsOf (F .done)),
+          length-take-le 4 table₀ (omega (arith, F .fits, F .low, F .most)),
+          length-wordsOf (F .done),
+          F .count,
+          F .low,
+        )
 
     -- the table's length stays
     pub filled-length : length table ≡ length table₀
@@ -118,8 +119,8 @@ module _ (s₀ n : ℕ) (asked : Bool) (table₀ : List ℕ) (d₀ : ℕ) where
 
 -- the whole: the first task τ, put at the start of old, and the loop after it
 module _ (s n : ℕ) (asked : Bool) (old : List ℕ) {τ : Task} {s₀ : ℕ} {table₀ : List ℕ} (h : 1 ≤ n) (et : τ ≡ taskDrawn s) (es : s₀ ≡ stateAfter 4 s)
-  (put : table₀ ≡ take 0 old ++ (τ .C ∷ τ .D ∷ τ .T ∷ τ .R ∷ drop (0 + 4) old)) {s′ : ℕ} {table : List ℕ} {d i : ℕ}
-  (F : Filled s₀ n asked table₀ (τ .D) s′ table d i) (e : n ≤ i) where
+    (put : table₀ ≡ take 0 old ++ (τ .C ∷ τ .D ∷ τ .T ∷ τ .R ∷ drop (0 + 4) old)) {s′ : ℕ} {table : List ℕ} {d i : ℕ}
+    (F : Filled s₀ n asked table₀ (τ .D) s′ table d i) (e : n ≤ i) where
   pub all-drawn : s′ ≡ stateAfter (4 * n) s
   all-drawn =
       let z : 4 * (n - 0) ≡ 4 * n = omega arith in

@@ -51,6 +51,8 @@ pub mod Lengths
 pub mod First
 -- the sets drawn from a seed
 pub mod Drawn
+pub mod DrawnFine
+pub mod DrawnSets
 pub mod Generated
 -- the starred sets
 pub mod Stars

@@ -15,4 +15,5 @@ pub mod Answers
 pub mod Report
 pub mod Calls
 pub mod Generator
+pub mod DrawnSets
 pub mod Stars

@@ -83,9 +83,10 @@ returns c =
     let after-put = at-loop .before .before .before in
     let after-draw = after-put .before .before in
     let at-start = after-draw .before .before .before in
-    let first = after-draw .draw-task .ensures in
-    (all-drawn _ _ _ (at-start .args .table .now) (at-start .pre .0) (first .0) (first .1) (after-put .put-task .ensures) (at-loop .loop .inv) (c .loop-test .left),
-    all-written _ _ _ _ (at-start .pre .0) (first .0) (first .1) (after-put .put-task .ensures) (at-loop .loop .inv) (c .loop-test .left))
+    let first = after-draw .draw-task .ensures in (
+      all-drawn _ _ _ (at-start .args .table .now) (at-start .pre .0) (first .0) (first .1) (after-put .put-task .ensures) (at-loop .loop .inv) (c .loop-test .left),
+      all-written _ _ _ _ (at-start .pre .0) (first .0) (first .1) (after-put .put-task .ensures) (at-loop .loop .inv) (c .loop-test .left),
+    )
 
 pub draw-tasks-spec : {M : Type 1} → statement M
 draw-tasks-spec =

@@ -1,0 +1,3 @@
+-- What the walks of `draw` and `draw_set` share.
+pub mod Lent
+pub mod Locals

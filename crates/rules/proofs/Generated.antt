@@ -17,6 +17,7 @@ use Rattle.rules.proofs.Tables.{valid-of}
 use Rattle.rules.proofs.Digits.{width-one, width-more}
 use Rattle.rules.proofs.WriteSteps.{line-length, key-length, set-length}
 use Rattle.rules.proofs.Drawn.{count-high, length-setDrawn, length-wordsDrawn}
+use Rattle.rules.proofs.DrawnFine.{drawn-fine}
 
 -- a number below 10 ^ (k + 1) has at most k + 1 digits
 width-most : (k v : ℕ) → v < 10 ^ 10 → v < 10 ^ suc k → length (digits v) ≤ suc k
@@ -43,11 +44,15 @@ lines-high k (w ∷ ws) h =
     lines-high (suc k) ws (λ i g. h (suc i) (omega arith)))
 
 -- the text of a table of up to eight tasks: its first line has 8 bytes, and there are at most 32 others
-pub text-high : (ws : List ℕ) → tableRefusal ws ≡ none → length ws ≤ 32 → length (writeSet ws) ≤ 264
+text-high : (ws : List ℕ) → tableRefusal ws ≡ none → length ws ≤ 32 → length (writeSet ws) ≤ 264
 text-high ws e h =
     let bounds = valid-of ws e in
     let lines = lines-high 0 ws (λ i g. bounds .high i (omega (arith, bounds .words))) in
     omega (arith, set-length ws, width-one (length ws / 4) (omega arith), lines)
+
+-- so for the text of a set drawn
+pub text-length : (number s : ℕ) → length (writeSet (wordsDrawn number s)) ≤ 264
+text-length number s = text-high (wordsDrawn number s) (drawn-fine number s) (omega (arith, length-wordsDrawn number s, count-high s))
 
 -- A SET is drawn into a table with room for eight tasks
 module _ {s number : ℕ} {table : List ℕ} {answer : ReadAnswer} {after : ℕ} {exit : List ℕ} (room : 32 ≤ length table)

@@ -1,7 +1,7 @@
 -- Sets drawn one after another and their texts, as code makes them: the set in a table with room for eight tasks, how long its text can be, and the
 -- texts of several sets, the first one before the others.
 use mathlib.Core.Path.{_≡_, refl, sym, ap, _∙_}
-use Prim.Native.Nat.{ℕ, zero, suc, _+_, _-_, _*_, _/_, _%_, _^_, _≤_, _<_}
+use Prim.Native.Nat.{ℕ, zero, suc, _+_, _*_, _/_, _%_, _^_, _≤_, _<_}
 use native.Mathlib.Decide.{decLt}
 use native.Mathlib.Omega.{arith}
 use mathlib.Core.List.{List, [], _∷_, _++_}
@@ -11,7 +11,7 @@ use lib.Seq.{take-at}
 use borrow.Author.Tests.{le-ltb}
 use Rattle.rules.specs.Table.{tableRefusal}
 use Rattle.rules.specs.Text.{digits, line, keyOf, writeLines, writeSet}
-use Rattle.rules.specs.Generator.{countDrawn, setDrawn, stateAfterSet, wordsDrawn, drawRefusal, drawAnswer, drawState, drawTable, DrawsSet, stateAfterSets, generated}
+use Rattle.rules.specs.Generator.{countDrawn, stateAfterSet, wordsDrawn, drawRefusal, drawAnswer, drawState, drawTable, DrawsSet, stateAfterSets, generated}
 use Rattle.rules.specs.declared.ReadAnswer.{ReadAnswer}
 use Rattle.rules.proofs.Tables.{valid-of}
 use Rattle.rules.proofs.Digits.{width-one, width-more}
@@ -35,13 +35,14 @@ lines-high k [] h = omega arith
 lines-high k (w ∷ ws) h =
     let first : w ≤ 65535 = h 0 (omega arith) in
     let l = line (keyOf (k % 4)) (digits w) in
-    omega
-    (arith,
-    length-append l (writeLines (suc k) ws),
-    line-length (keyOf (k % 4)) (digits w),
-    key-length (k % 4),
-    width-most 4 w (omega arith) (omega arith),
-    lines-high (suc k) ws (λ i g. h (suc i) (omega arith)))
+    omega (
+      arith,
+      length-append l (writeLines (suc k) ws),
+      line-length (keyOf (k % 4)) (digits w),
+      key-length (k % 4),
+      width-most 4 w (omega arith) (omega arith),
+      lines-high (suc k) ws (λ i g. h (suc i) (omega arith)),
+    )
 
 -- the text of a table of up to eight tasks: its first line has 8 bytes, and there are at most 32 others
 text-high : (ws : List ℕ) → tableRefusal ws ≡ none → length ws ≤ 32 → length (writeSet ws) ≤ 264
@@ -56,7 +57,7 @@ text-length number s = text-high (wordsDrawn number s) (drawn-fine number s) (om
 
 -- A SET is drawn into a table with room for eight tasks
 module _ {s number : ℕ} {table : List ℕ} {answer : ReadAnswer} {after : ℕ} {exit : List ℕ} (room : 32 ≤ length table)
-  (draws : DrawsSet s number table answer after exit) where
+    (draws : DrawsSet s number table answer after exit) where
   fits : drawRefusal s number table ≡ none
   unfolding drawRefusal
   fits =

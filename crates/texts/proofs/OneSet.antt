@@ -1,6 +1,6 @@
 -- One set's text: a set drawn is a table with a text of at most 264 bytes, so that neither its draw into a table with room for eight tasks nor its
 -- text is ever refused, and the text that is written is the one of the set.
-use mathlib.Core.Path.{_≡_, sym, ap, subst, _∙_}
+use mathlib.Core.Path.{_≡_, sym, ap, _∙_}
 use Prim.Native.Nat.{ℕ, _*_, _≤_}
 use native.Mathlib.Omega.{arith}
 use mathlib.Core.List.{List, _++_}
@@ -17,7 +17,7 @@ use Rattle.rules.proofs.Generated.{text-length, draw-answers, draw-moves, draw-
 use Rattle.texts.specs.Texts.{textMost, PutsSet}
 
 module _ {s number : ℕ} {table : List ℕ} {drawn : ReadAnswer} {after : ℕ} {words : List ℕ} (room : 32 ≤ length table)
-  (draws : DrawsSet s number table drawn after words) {n : ℕ} (e : drawn ≡ ReadAnswer.Set n) where
+    (draws : DrawsSet s number table drawn after words) {n : ℕ} (e : drawn ≡ ReadAnswer.Set n) where
   -- the count that was answered
   count-is : n ≡ countDrawn s
   count-is = let f = sym e ∙ draw-answers room draws in cc

@@ -6,10 +6,14 @@ use mathlib.Core.List.{List, [], _++_, append-assoc, append-nil}
 use lib.ListN.{length, take, drop, length-append, length-drop}
 use lib.Seq.{drop-drop}
 use Rattle.rules.specs.Text.{writeSet}
-use Rattle.rules.specs.Generator.{wordsDrawn, stateAfterSet, stateAfterSets, generated}
+use Rattle.rules.specs.Generator.{wordsDrawn, stateAfterSets, generated}
 use Rattle.rules.proofs.Slices.{lent-end, end-back}
 use Rattle.rules.proofs.Generated.{text-length, generated-none, generated-more, sets-none, sets-more}
 use Rattle.texts.specs.Texts.{textMost, PutsSet, PutsSets}
+
+-- one text has 264 bytes at most
+pub size-most : {s number size after : ℕ} {out exit : List ℕ} → PutsSet s number out size after exit → size ≤ textMost
+size-most {s} {number} puts = omega (arith, puts .says, text-length number s)
 
 -- the texts of the first i sets stand at the start of out
 pub record SoFar (s₀ number count : ℕ) (old : List ℕ) (s : ℕ) (out : List ℕ) (at i : ℕ) : Type 0 where
@@ -54,9 +58,6 @@ module _ (s₀ number count : ℕ) (old : List ℕ) where
       one-put : PutsSet s (number + i) (drop at old) size after exit
       one-put = rw (lent-end (so-far .texts) (drop at old) out at (so-far .many) (so-far .stands)) at puts
 
-      pub size-most : size ≤ textMost
-      size-most = omega (arith, puts .says, text-length (number + i) s)
-
       abbrev texts : List ℕ
       texts = so-far .texts ++ text
 
@@ -74,14 +75,14 @@ module _ (s₀ number count : ℕ) (old : List ℕ) where
       left : count - i ≡ suc (count - (i + 1))
       left = omega arith
 
-      pub at-next : SoFar s₀ number count old after (take at out ++ (exit ++ drop (length out - at) (drop at out))) (at + size) (i + 1)
-      at-next =
+      next : SoFar s₀ number count old after (take at out ++ (exit ++ drop (length out - at) (drop at out))) (at + size) (i + 1)
+      next =
           let k : number + (i + 1) ≡ suc (number + i) = omega arith in
           record {
             texts = texts;
             many = many;
             stands = stands;
-            same = omega (arith, ap length stands, length-append texts (drop (at + size) old), length-drop (at + size) old, many, size-most, fits h, so-far .same);
+            same = omega (arith, ap length stands, length-append texts (drop (at + size) old), length-drop (at + size) old, many, size-most puts, fits h, so-far .same);
             due =
                 append-assoc (so-far .texts) text (generated (count - (i + 1)) (number + (i + 1)) after)
                 ∙ ap (λ (l : List ℕ). so-far .texts ++ l)
@@ -95,8 +96,13 @@ module _ (s₀ number count : ℕ) (old : List ℕ) where
                 ∙ ap (λ (n : ℕ). stateAfterSets n s) (sym left)
                 ∙ so-far .moved;
             within = omega arith;
-            put = omega (arith, so-far .put, size-most);
+            put = omega (arith, so-far .put, size-most puts);
           }
+
+    -- so where the set has the next number and its text goes to the next place
+    pub at-next : i < count → {k from size after : ℕ} {exit : List ℕ} → PutsSet s k (take (length out - from) (drop from out)) size after exit
+        → k ≡ number + i → from ≡ at → SoFar s₀ number count old after (take from out ++ (exit ++ drop (length out - from) (drop from out))) (at + size) (i + 1)
+    at-next h puts e f = rw f (next h (rw (e, f) at puts))
 
     -- no set is left
     pub at-last : count ≤ i → PutsSets s₀ number count old at s out

@@ -10,19 +10,18 @@ use Rattle.rules.specs.Generator.{wordsDrawn, stateAfterSet, stateAfterSets, ge
 abbrev pub textMost : ℕ
 textMost = 264
 
--- a text stands at the start of the lent bytes, which stay the same beyond it; the answer is its length, and the state is the one that is due
-pub record Texts (text : List ℕ) (due : ℕ) (out : List ℕ) (size after : ℕ) (exit : List ℕ) : Type 0 where
-  pub says : size ≡ length text
-  pub moves : after ≡ due
-  pub leaves : exit ≡ text ++ drop (length text) out
+-- the text of the set of a number stands at the start of the lent bytes, which stay the same beyond it; the answer is its length, and the state is
+-- the one after the set
+pub record PutsSet (s number : ℕ) (out : List ℕ) (size after : ℕ) (exit : List ℕ) : Type 0 where
+  pub says : size ≡ length (writeSet (wordsDrawn number s))
+  pub moves : after ≡ stateAfterSet s
+  pub leaves : exit ≡ writeSet (wordsDrawn number s) ++ drop (length (writeSet (wordsDrawn number s))) out
 
--- the text of the set of a number
-abbrev pub PutsSet : ℕ → ℕ → List ℕ → ℕ → ℕ → List ℕ → Type 0
-PutsSet s number = Texts (writeSet (wordsDrawn number s)) (stateAfterSet s)
-
--- the texts of so many sets, numbered from a number on
-abbrev pub PutsSets : ℕ → ℕ → ℕ → List ℕ → ℕ → ℕ → List ℕ → Type 0
-PutsSets s number count = Texts (generated count number s) (stateAfterSets count s)
+-- so the texts of so many sets, numbered from a number on, one after another
+pub record PutsSets (s number count : ℕ) (out : List ℕ) (size after : ℕ) (exit : List ℕ) : Type 0 where
+  pub says : size ≡ length (generated count number s)
+  pub moves : after ≡ stateAfterSets count s
+  pub leaves : exit ≡ generated count number s ++ drop (length (generated count number s)) out
 
 -- two outcomes of one call are equal
 abbrev pub TextsOne : Type 0

@@ -1,10 +1,8 @@
 -- `texts::put_sets` meets its contract: after each turn the texts of the sets drawn so far stand at the start of out, and with those of the sets
 -- that are left they are the texts of all; each has 264 bytes at most, so there is room for the next.
-use Prim.Native.Nat.{_+_, _-_, _≤_}
+use Prim.Native.Nat.{_-_}
 use native.Mathlib.Omega.{arith}
-use lib.ListN.{length}
 use borrow.Author.Needs.{needs}
-use Rattle.texts.specs.Texts.{textMost}
 use Rattle.texts.proofs.Turns.{SoFar, at-first, fits, size-most, at-next, at-last}
 use Rattle.texts.proofs.put_sets.Statement.{statement}
 use Rattle.texts.proofs.put_sets.Tie as tie
@@ -16,9 +14,7 @@ abbrev μ-loop : tie.MeasureT-loop
 μ-loop state₀ number count out₀ at₀ i₀ state out at i = count - i
 
 loop-holds : tie.Need-loop-holds Inv-loop μ-loop
-loop-holds c =
-    let at-start = c .before in
-    at-first _ _ _ _
+loop-holds c = at-first _ _ _ _
 
 add-put-set : tie.Need-add-put-set Inv-loop μ-loop
 add-put-set c = search needs
@@ -41,8 +37,7 @@ add-at c =
     let in-loop = after-put .before .before .before in
     let at-loop = in-loop .before in
     let at-start = at-loop .before .before in
-    let few = size-most _ _ _ _ (at-loop .loop .inv) (at-start .pre .1) (in-loop .loop-test .taken) (after-put .put-set .ensures) in
-    omega (arith, few, fits _ _ _ _ (at-loop .loop .inv) (at-start .pre .1) (in-loop .loop-test .taken))
+    omega (arith, size-most (after-put .put-set .ensures), fits _ _ _ _ (at-loop .loop .inv) (at-start .pre .1) (in-loop .loop-test .taken))
 
 add-i : tie.Need-add-i Inv-loop μ-loop
 add-i c = search needs
@@ -56,7 +51,7 @@ loop-again c =
     let in-loop = after-put .before .before .before in
     let at-loop = in-loop .before in
     let at-start = at-loop .before .before in
-    at-next _ _ _ _ (at-loop .loop .inv) (at-start .pre .1) (omega (arith, in-loop .loop-test .taken)) (after-put .put-set .ensures)
+    at-next _ _ _ _ (at-loop .loop .inv) (at-start .pre .1) (omega (arith, in-loop .loop-test .taken)) (after-put .put-set .ensures) (omega arith) (omega arith)
 
 same-length : tie.Need-same-length Inv-loop μ-loop
 same-length c = search needs

@@ -1,3 +1,4 @@
--- What the walks of `draw` and `draw_set` share.
+-- What the walks share.
 pub mod Lent
 pub mod Locals
+pub mod Set

@@ -1,4 +1,5 @@
 // The generator: its state is lent to each draw and moved on by it. Each call is thin, over one of `draws` on the number.
+// Two more take the generator by value and return it, over the lent ones.
 ghost use Rattle.rules.specs.Generator.{Draws, DrawsSet};
 use rules::ReadAnswer;
 
@@ -25,4 +26,38 @@ pub fn draw_set(g: &mut Generator, number: u32, table: &mut [u32]) -> ReadAnswer
     let answer = draws::draw_set_from(&mut state, number, table);
     g.state = state;
     answer
+}
+
+// What was drawn, and the generator after it.
+pub struct Drawn {
+    pub number: u32,
+    pub after: Generator,
+}
+
+// What a set's draw answered, and the generator after it.
+pub struct DrawnSet {
+    pub answer: ReadAnswer,
+    pub after: Generator,
+}
+
+// The draw for a caller that holds the generator by value; the prover covers such callers.
+pub fn draw_value(mut g: Generator) -> Drawn
+    ensures { λ r. ⌜ Draws (g .state) (r .number) (r .after .state) ⌝ }
+{
+    let number = draw(&mut g);
+    Drawn {
+        number: number,
+        after: g,
+    }
+}
+
+// The set's draw for such a caller.
+pub fn draw_set_value(mut g: Generator, number: u32, table: &mut [u32]) -> DrawnSet
+    ensures { λ r. ⌜ DrawsSet (g .state) number (now (table .entry)) (r .answer) (r .after .state) (now (table .exit)) ⌝ }
+{
+    let answer = draw_set(&mut g, number, table);
+    DrawnSet {
+        answer: answer,
+        after: g,
+    }
 }

@@ -5,9 +5,10 @@ use native.Mathlib.Omega.{arith}
 use Rattle.rules.specs.Refusals.{numberOf}
 use Rattle.rules.specs.Answers.{readAnswer, readTable, readRest, writeAnswer, writeBuffer, scheduleAnswer, scheduleBuffer, verdictAnswer, patternAnswer, patternBuffer, checkNumber}
 use Rattle.rules.specs.Report.{reportAnswer, reportBuffer}
+use Rattle.rules.specs.Generator.{nextState, drawn, drawAnswer, drawState, drawTable}
 use Rattle.rules.specs.declared.Refusal.{Refusal}
 use Rattle.rules.specs.declared.Refusal.the-variants.{NoWord, NotFours, TooManyWords, OutOfRange, BadEnd, TooShort, BadLine, NotMisses}
-use Rattle.rules.proofs.Untouched.{read-untouched, write-untouched, schedule-untouched, pattern-untouched, report-untouched}
+use Rattle.rules.proofs.Untouched.{read-untouched, write-untouched, schedule-untouched, pattern-untouched, report-untouched, draw-untouched}
 use Rattle.promises.specs.Demands.{EndsWell, Untouched}
 
 pub ends-well : EndsWell
@@ -39,6 +40,16 @@ ends-well = record {
     no-other = λ o c i. (c .says i, c .leaves i);
   };
   checking = λ text. record { outcome = checkNumber text; as-due = refl; no-other = λ o c. c };
+  drawing = λ s. record {
+    outcome = (drawn s, nextState s);
+    as-due = record { says = refl; moves = refl };
+    no-other = λ o c i. (c .says i, c .moves i);
+  };
+  drawing-set = λ s number table. record {
+    outcome = (drawAnswer s number table, drawState s number table, drawTable s number table);
+    as-due = record { says = refl; moves = refl; leaves = refl };
+    no-other = λ o c i. (c .says i, c .moves i, c .leaves i);
+  };
 }
 
 -- every refusal has a number
@@ -60,4 +71,5 @@ untouched = record {
   scheduling = schedule-untouched;
   showing = pattern-untouched;
   reporting = report-untouched;
+  drawing = draw-untouched;
 }

@@ -10,4 +10,6 @@ mod Shown
 pub mod Dispatched
 pub mod CallForC
 mod Printing
+mod Seeded
+pub mod SetsDrawn
 pub mod Numbers

@@ -6,6 +6,7 @@ use Rattle.promises.proofs.Texts.{reader-tells, writer-tells, report-te
 use Rattle.promises.proofs.Judged.{judge-tells, first-tells}
 use Rattle.promises.proofs.Shown.{schedule-tells, pattern-tells}
 use Rattle.promises.proofs.Printing.{prints}
+use Rattle.promises.proofs.Seeded.{draw-tells, set-tells}
 
 pub paper-numbers : PaperNumbers
 paper-numbers = record {
@@ -18,6 +19,8 @@ paper-numbers = record {
   reporting = report-tells;
   too-long = output-long;
   printing = prints;
+  drawing = draw-tells;
+  drawing-set = set-tells;
 }
 
 pub sample : Bytes

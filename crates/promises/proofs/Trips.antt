@@ -15,17 +15,10 @@ use Rattle.rules.specs.declared.Refusal.the-variants.{TooShort}
 use Rattle.rules.specs.declared.ReadAnswer.{ReadAnswer}
 use Rattle.rules.specs.declared.WriteAnswer.{WriteAnswer}
 use Rattle.rules.specs.declared.WriteAnswer.the-variants.{Written, Refused}
-use Rattle.rules.proofs.Tables.{valid-of}
-use Rattle.rules.proofs.SetTrips.{small-of, set-there, set-back}
+use Rattle.rules.proofs.SetTrips.{write-then-read, set-back}
 use Rattle.rules.proofs.Calls.{read-set, write-refused, write-short, write-text}
 use Rattle.rules.proofs.Reading.{took-set}
 use Rattle.promises.specs.Demands.{RoundTrips}
-
--- the text of a table that is not refused is read as that table
-there : (table after : List ℕ) → tableRefusal table ≡ none → readSet (writeSet table ++ after) ≡ took table after
-there table after e =
-    let v = valid-of table e in
-    set-there (length table / 4) table after (v .words) (v .some-task) (v .most-tasks) (small-of table (λ i l. v .high i (omega arith)))
 
 -- what was written is the text of a table that is not refused
 record Wrote (table : List ℕ) (n : ℕ) (exit : List ℕ) : Type 0 where
@@ -55,11 +48,11 @@ wrote-set table out exit n w = go (tableRefusal table) refl
 
 pub round-trips : RoundTrips
 round-trips = record {
-  write-then-read = there;
+  write-then-read = write-then-read;
   read-then-write = λ text words after e t. sym (set-back text words after e .text);
   written-is-read = λ table out text n w after room h answer rest exit r.
       let x = wrote-set table out text n w in
-      let s : readSet (take n text ++ after) ≡ took table after = ap (λ (l : List ℕ). readSet (l ++ after)) (x .text) ∙ there table after (x .fine) in
+      let s : readSet (take n text ++ after) ≡ took table after = ap (λ (l : List ℕ). readSet (l ++ after)) (x .text) ∙ write-then-read table after (x .fine) in
       let o = read-set (take n text ++ after) room table after s h in
       (r .says ∙ sym (o .says), r .hands-back ∙ sym (o .hands-back), r .leaves ∙ sym (o .leaves));
   read-is-written = λ text table rest words n r out exit k w.

@@ -1,7 +1,7 @@
 -- The three demands on one page, over the definitions and the calls' contracts of rules/specs.
 use mathlib.Core.Path.{_≡_}
 use mathlib.Core.Logic.{_↔_}
-use Prim.Native.Nat.{ℕ, _+_, _*_, _/_, _≤_, _<_}
+use Prim.Native.Nat.{ℕ, suc, _+_, _-_, _*_, _/_, _%_, _≤_, _<_}
 use mathlib.Core.List.{List, [], _∷_, _++_, List·Memᴰ}
 use mathlib.Core.Bool.{true, false}
 use mathlib.Core.Option.{none, some}
@@ -16,11 +16,12 @@ use Rattle.rules.specs.Dispatch.{Job, Row, late, same, dispatch, lateJob}
 use Rattle.rules.specs.Policy.{Obeys, NamedLate}
 use Rattle.rules.specs.Jobs.{OnTrain, concrete, named}
 use Rattle.rules.specs.Legal.{Legal}
-use Rattle.rules.specs.Demand.{Wait, fails, closes, blocker, Blocks, verdict}
+use Rattle.rules.specs.Demand.{Due, Wait, fails, closes, blocker, Blocks, verdict}
 use Rattle.rules.specs.Text.{bytes, took, stop, readSet, writeSet}
 use Rattle.rules.specs.Answers.{readAnswer, readTable, readRest, writeAnswer, writeBuffer, scheduleAnswer, scheduleBuffer, verdictAnswer, patternAnswer, patternBuffer, firstAnswer, checkNumber}
 use Rattle.rules.specs.Report.{reportAnswer, reportBuffer, output}
 use Rattle.rules.specs.Calls.{Reads, Writes, Schedules, Shows, Reports}
+use Rattle.rules.specs.Generator.{setDrawn, wordsDrawn, stateAfterSet, stateAfterSets, generated, Draws, drawAnswer, drawState, drawTable, DrawsSet}
 use Rattle.rules.specs.declared.Refusal.{Refusal}
 use Rattle.rules.specs.declared.Verdict.{Verdict}
 use Rattle.rules.specs.declared.ReadAnswer.{ReadAnswer}
@@ -29,7 +30,7 @@ use Rattle.rules.specs.declared.ScheduleAnswer.{ScheduleAnswer}
 use Rattle.rules.specs.declared.VerdictAnswer.{VerdictAnswer}
 use Rattle.rules.specs.declared.PatternAnswer.{PatternAnswer}
 use Rattle.rules.specs.declared.ReportAnswer.{ReportAnswer}
-use Rattle.promises.specs.Tables.{Least, None, ReaderTells, WriterTells, ScheduleTells, JudgeTells, PatternTells, FirstTells, ReportTells, Run}
+use Rattle.promises.specs.Tables.{Least, None, ReaderTells, WriterTells, ScheduleTells, JudgeTells, PatternTells, FirstTells, ReportTells, Run, SetTells}
 
 -- 1. ANY INPUT ENDS WELL. Any table, any text, any lent buffer gets an answer or a numbered refusal. A refusal changes no lent buffer.
 
@@ -39,7 +40,7 @@ pub record One (X : Type 0) (Contract : X → Type 0) : Type 0 where
   pub as-due : Contract outcome
   pub no-other : (x : X) → Contract x → x ≡ outcome
 
--- for every input each call has exactly one outcome: its answer, what it hands back, and each lent buffer at exit
+-- for every input each call has exactly one outcome: its answer, what it hands back, and each lent buffer and state at exit
 pub record EndsWell : Type 0 where
   pub reading : (text table : List ℕ) → One (ReadAnswer × List ℕ × List ℕ) (λ o. Reads text table (o .0) (o .1) (o .2))
   pub writing : (table out : List ℕ) → One (WriteAnswer × List ℕ) (λ o. Writes table out (o .0) (o .1))
@@ -48,8 +49,10 @@ pub record EndsWell : Type 0 where
   pub showing : (table out : List ℕ) → One (PatternAnswer × List ℕ) (λ o. Shows table out (o .0) (o .1))
   pub reporting : (number : ℕ) (text out : List ℕ) → One (ReportAnswer × List ℕ) (λ o. Reports number text out (o .0) (o .1))
   pub checking : (text : List ℕ) → One ℕ (λ o. o ≡ checkNumber text)
+  pub drawing : (s : ℕ) → One (ℕ × ℕ) (λ o. Draws s (o .0) (o .1))
+  pub drawing-set : (s number : ℕ) (table : List ℕ) → One (ReadAnswer × ℕ × List ℕ) (λ o. DrawsSet s number table (o .0) (o .1) (o .2))
 
--- a refusal has a number from 1 to 8; each lent buffer at exit is what it was; the reader hands the whole text back
+-- a refusal has a number from 1 to 8; each lent buffer and state at exit is what it was; the reader hands the whole text back
 pub record Untouched : Type 0 where
   pub numbered : (r : Refusal) → (1 ≤ numberOf r) × (numberOf r ≤ 8)
   pub reading : (text table rest exit : List ℕ) (r : Refusal) → Reads text table (ReadAnswer.Refused r) rest exit → (rest ≡ text) × (exit ≡ table)
@@ -57,6 +60,7 @@ pub record Untouched : Type 0 where
   pub scheduling : (table out exit : List ℕ) (z : ℕ) (r : Refusal) → Schedules table z out (ScheduleAnswer.Refused r) exit → exit ≡ out
   pub showing : (table out exit : List ℕ) (r : Refusal) → Shows table out (PatternAnswer.Refused r) exit → exit ≡ out
   pub reporting : (number : ℕ) (text out exit : List ℕ) (r : Refusal) → Reports number text out (ReportAnswer.Refused r) exit → exit ≡ out
+  pub drawing : (s number after : ℕ) (table exit : List ℕ) (r : Refusal) → DrawsSet s number table (ReadAnswer.Refused r) after exit → (after ≡ s) × (exit ≡ table)
 
 -- 2. THE NUMBERS ARE THE PAPER'S. Rows, late job, verdict and text each equal a definition.
 
@@ -76,6 +80,9 @@ pub record PaperNumbers : Type 0 where
       → ((reportTold (reportAnswer n text out) ≡ t) × (reportBuffer n text out ≡ exit)) ↔ ReportTells n text out t exit
   pub too-long : (input : List ℕ) → 32768 < length input → output input ≡ bytes "toolong" ++ (10 ∷ [])
   pub printing : (input printed : List ℕ) → length input ≤ 32768 → (output input ≡ printed) ↔ Run 1 input printed
+  pub drawing : (s n after : ℕ) → Draws s n after ↔ ((after ≡ (1664525 * s + 1013904223) % 4294967296) × (n ≡ after / 65536))
+  pub drawing-set : (s number : ℕ) (table : List ℕ) (t : Told) (after : ℕ) (exit : List ℕ)
+      → ((readTold (drawAnswer s number table) ≡ t) × (drawState s number table ≡ after) × (drawTable s number table ≡ exit)) ↔ SetTells s number table t after exit
 
 -- the dispatcher: the rows of a legal pattern obey the rules of document 01, and whatever obeys them is these rows; the late job named is late,
 -- and no late job has a lesser deadline, or an equal one and a lower task
@@ -182,3 +189,26 @@ pub data CallSays (text : List ℕ) : ℕ → Type 0 where
 pub record CallForC : Type 0 where
   pub says : (text : List ℕ) → CallSays text (checkNumber text)
   pub safe : (text : List ℕ) → checkNumber text ≡ 100 → WasRead text (λ ts. (js : List Job) → Legal ts js → InTime js)
+
+-- THE GENERATOR. Where the long kernel is put, task k of the set and its last: its C is at most every other D and equal to one of them, and its D is
+-- above all of theirs. So at the length L of its C a tick is due, and all but one may be waited for: L fails, except exactly where just one tick is due
+-- and no other kernel holds the tile for longer
+pub record HoldsTheTile (ts : List Task) (k : ℕ) : Type 0 where
+  pub last : length ts ≡ suc k
+  pub C-most : (i : ℕ) → i < k → taskAt ts k .C ≤ taskAt ts i .D
+  pub C-one : (i : ℕ) × (i < k) × (taskAt ts k .C ≡ taskAt ts i .D)
+  pub D-above : (i : ℕ) → i < k → taskAt ts i .D < taskAt ts k .D
+  pub due : 1 ≤ Due (taskAt ts k .C) ts
+  pub waits : taskAt ts k .C - 1 ≤ Wait (taskAt ts k .C) ts
+  pub passes : (fails (taskAt ts k .C) ts ≡ false) ↔ ((Due (taskAt ts k .C) ts ≡ 1) × (Wait (taskAt ts k .C) ts ≡ taskAt ts k .C - 1))
+
+-- every set drawn is one that the verdict doesn't refuse, by the definitions and of whatever meets the call's contract; at each number that is a
+-- multiple of 4, in a set of two tasks or more, the long kernel is there; and the texts of sets are what the check reads, set after set
+pub record SetsDrawn : Type 0 where
+  pub not-refused : (s number : ℕ) → (v : Verdict) × (verdictAnswer (wordsDrawn number s) ≡ VerdictAnswer.Judged v)
+  pub drawn-is-judged : (s number n after : ℕ) (table exit : List ℕ) → DrawsSet s number table (ReadAnswer.Set n) after exit
+      → (v : Verdict) × (verdictAnswer (take (4 * n) exit) ≡ VerdictAnswer.Judged v)
+  pub long-kernel : (s number : ℕ) → number % 4 ≡ 0 → 2 ≤ length (setDrawn number s) → HoldsTheTile (setDrawn number s) (length (setDrawn number s) - 1)
+  pub no-text : (k s : ℕ) → generated 0 k s ≡ []
+  pub read-in-turn : (n k s : ℕ) → readSet (generated (suc n) k s) ≡ took (wordsDrawn k s) (generated n (suc k) (stateAfterSet s))
+  pub in-pieces : (m n k s : ℕ) → generated (m + n) k s ≡ generated m k s ++ generated n (k + m) (stateAfterSets m s)

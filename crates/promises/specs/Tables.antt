@@ -1,5 +1,5 @@
 -- The paper's tables: of each call what it tells (a number with values) and what it leaves in each lent buffer. One definition a call, one line
--- a case, the numbers as figures, in the paper's order. Document 01, "Refusal numbers", "The verdict over all arrivals" and "Dispatch".
+-- a case, the numbers as figures, in the paper's order. Document 01, "Refusal numbers", "The verdict over all arrivals" and "Dispatch"; document 02, 1/14.
 use mathlib.Core.Path.{_≡_}
 use mathlib.Core.Logic.{_⊎_}
 use Prim.Native.Nat.{ℕ, suc, _+_, _*_, _/_, _%_, _≤_, _<_}
@@ -16,6 +16,7 @@ use Rattle.rules.specs.Jobs.{concrete, named}
 use Rattle.rules.specs.Demand.{Wait, fails, closes, Blocks}
 use Rattle.rules.specs.Text.{bytes, digits, line, took, stop, readSet, writeSet}
 use Rattle.rules.specs.Report.{setLines, setRest}
+use Rattle.rules.specs.DrawnSets.{FromSeed}
 
 -- x is the least number from 1 to H that passes a test
 abbrev pub Least : (ℕ → Bool) → ℕ → Type 0
@@ -113,3 +114,15 @@ pub data Run : ℕ → List ℕ → List ℕ → Type 0 where
   more :
       {n : ℕ} {text ls printed : List ℕ} {t : Told} → FirstTells text t → Prints t ls → (setRest text ≡ [] → ⊥) → Run (suc n) (setRest text) printed
       → Run n text ((line (bytes "set=") (digits n) ++ ls) ++ printed)
+
+-- words that are those of a table with these tasks
+pub record WordsFor (ts : List Task) (ws : List ℕ) : Type 0 where
+  pub four-each : length ws ≡ 4 * length ts
+  pub in-order : tasksOf ws ≡ ts
+
+-- THE SET OF A NUMBER that is drawn from a state: 6 the table is shorter than the set, and then the state stays;
+-- else 0 with the task count, the state after the set, and the set's words at the start of the table
+pub data SetTells (s number : ℕ) (table : List ℕ) : Told → ℕ → List ℕ → Type 0 where
+  six : {ts : List Task} {after : ℕ} → FromSeed s number ts after → length table < 4 * length ts → SetTells s number table (6 with []) s table
+  set : {ts : List Task} {after : ℕ} {ws : List ℕ} → FromSeed s number ts after → 4 * length ts ≤ length table → WordsFor ts ws
+      → SetTells s number table (0 with (length ts ∷ [])) after (ws ++ drop (4 * length ts) table)

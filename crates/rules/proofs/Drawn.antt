@@ -144,34 +144,47 @@ unfolding wordsOf
 wordsOf-append [] us = refl
 wordsOf-append (τ ∷ ts) us = ap (λ (l : List ℕ). τ .C ∷ τ .D ∷ τ .T ∷ τ .R ∷ l) (wordsOf-append ts us)
 
--- THE SET, of which n was drawn for the count
-module _ {s n s₁ : ℕ} (number : ℕ) (table : List ℕ) (a : Draws s n s₁) where
-  drew-length : length (wordsDrawn number s) ≡ 4 * (1 + n % 8)
-  drew-length = omega (arith, length-wordsDrawn number s, count-drew a)
-
+-- THE SET
+module _ (s number : ℕ) (table : List ℕ) where
   -- 6: the table is shorter than the set drawn
-  pub set-short : length table < 4 * (1 + n % 8) → DrawsSet s number table (ReadAnswer.Refused TooShort) s table
+  pub set-refused : length table < 4 * countDrawn s → DrawsSet s number table (ReadAnswer.Refused TooShort) s table
   unfolding drawRefusal drawAnswer drawState drawTable
-  set-short h =
-      let e = lt-ltb (length table) (length (wordsDrawn number s)) (omega (arith, drew-length)) in
+  set-refused h =
+      let e = lt-ltb (length table) (length (wordsDrawn number s)) (omega (arith, length-wordsDrawn number s)) in
       record { says = rw e; moves = rw e; leaves = rw e }
 
   -- the set's words, and the state after it
+  pub set-given : 4 * countDrawn s ≤ length table
+      → DrawsSet s number table (ReadAnswer.Set (countDrawn s)) (stateAfterSet s) (wordsDrawn number s ++ drop (4 * countDrawn s) table)
+  unfolding drawRefusal drawAnswer drawState drawTable
+  set-given h =
+      let n = length-wordsDrawn number s in
+      let e = le-ltb (length table) (length (wordsDrawn number s)) (omega arith) in
+      record {
+        says = rw (e, length-setDrawn number s);
+        moves = rw e;
+        leaves = rw e (ap (λ (k : ℕ). wordsDrawn number s ++ drop k table) (sym n));
+      }
+
+-- the same where n was drawn for the count, and the tasks from the state after that
+module _ {s n s₁ : ℕ} (number : ℕ) (table : List ℕ) (a : Draws s n s₁) where
+  pub set-short : length table < 4 * (1 + n % 8) → DrawsSet s number table (ReadAnswer.Refused TooShort) s table
+  set-short h = set-refused s number table (omega (arith, count-drew a))
+
   pub set-drew : {exit : List ℕ} {s₂ : ℕ} → 4 * (1 + n % 8) ≤ length table → s₂ ≡ stateAfter (4 * (1 + n % 8)) s₁
       → exit
       ≡ wordsOf (if eqb (number % 4) 0 then withLong (tasksDrawn (1 + n % 8) s₁) else tasksDrawn (1 + n % 8) s₁) ++ drop (4 * (1 + n % 8)) table
       → DrawsSet s number table (ReadAnswer.Set (1 + n % 8)) s₂ exit
-  unfolding drawRefusal drawAnswer drawState drawTable setDrawn stateAfterSet
+  unfolding setDrawn stateAfterSet
   set-drew {exit} {s₂} h es ex =
-      let e = le-ltb (length table) (length (wordsDrawn number s)) (omega (arith, drew-length)) in
-      let one : stateAfter 1 s ≡ s₁ = first-state s ∙ sym (a .moves) in
       let k = count-drew a in
+      let one : s₁ ≡ stateAfter 1 s = a .moves ∙ sym (first-state s) in
+      let g = set-given s number table (omega (arith, k)) in
       record {
-        says = rw (e, length-setDrawn number s) (ap ReadAnswer.Set k);
-        moves = rw e (es ∙ ap₂ (λ (i j : ℕ). stateAfter (4 * i) j) k (sym one) ∙ state-more 1 (4 * countDrawn s) s);
+        says = ap ReadAnswer.Set k ∙ g .says;
+        moves = es ∙ ap₂ (λ (i j : ℕ). stateAfter (4 * i) j) k one ∙ state-more 1 (4 * countDrawn s) s ∙ g .moves;
         leaves =
-            rw e
-            (ex
-            ∙ ap₂ (λ (i j : ℕ). wordsOf (if eqb (number % 4) 0 then withLong (tasksDrawn i j) else tasksDrawn i j) ++ drop (4 * (1 + n % 8)) table) k (sym one)
-            ∙ ap (λ (i : ℕ). wordsDrawn number s ++ drop i table) (sym drew-length));
+            ex
+            ∙ ap₂ (λ (i j : ℕ). wordsOf (if eqb (number % 4) 0 then withLong (tasksDrawn i j) else tasksDrawn i j) ++ drop (4 * i) table) k one
+            ∙ g .leaves;
       }

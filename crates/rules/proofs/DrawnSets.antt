@@ -3,15 +3,16 @@ use mathlib.Core.Path.{_≡_, refl, sym, ap, ap₂, subst, _∙_}
 use Prim.Native.Nat.{ℕ, zero, suc, _+_, _-_, _*_, _/_, _%_, _≤_, _<_, min}
 use native.Mathlib.Nat.{zero-add, add-zero}
 use native.Mathlib.Omega.{arith}
-use mathlib.Core.Logic.{_⊎_, inl, inr}
+use mathlib.Core.Logic.{_⊎_, inl, inr, _↔_}
 use mathlib.Core.List.{List, [], _∷_}
-use lib.ListN.{length, getD}
+use lib.ListN.{length}
+use borrow.Author.Tests.{eq-eqb, ne-eqb}
 use Rattle.rules.specs.Task.{tasksOf, taskAt}
-use Rattle.rules.specs.Generator.{nextState, drawn, stateAfter, countDrawn, taskDrawn, tasksDrawn, longKernel, lastLong, withLong, wordsOf}
-use Rattle.rules.specs.DrawnSets.{States, SetOf, LongAt}
+use Rattle.rules.specs.Generator.{nextState, drawn, stateAfter, countDrawn, taskDrawn, tasksDrawn, longKernel, lastLong, withLong, setDrawn, stateAfterSet, wordsOf, Draws}
+use Rattle.rules.specs.DrawnSets.{States, SetOf, LongAt, FromSeed}
 use Rattle.rules.specs.declared.Task.{Task}
 use Rattle.rules.proofs.Booleans.{split}
-use Rattle.rules.proofs.Drawn.{first-state, state-none, state-more, length-tasksDrawn, length-withLong}
+use Rattle.rules.proofs.Drawn.{first-state, state-none, state-more, count-low, length-tasksDrawn}
 
 -- equal words are equal tasks
 task-equal : {τ υ : Task} → τ .C ≡ υ .C → τ .D ≡ υ .D → τ .T ≡ υ .T → τ .R ≡ υ .R → τ ≡ υ
@@ -36,6 +37,14 @@ states-next k s =
 next-once : (s : ℕ) → nextState s ≡ (1664525 * s + 1013904223) % 4294967296
 unfolding nextState
 next-once s = omega arith
+
+-- a draw, in the paper's figures
+pub draw-when : (s n after : ℕ) → Draws s n after ↔ ((after ≡ (1664525 * s + 1013904223) % 4294967296) × (n ≡ after / 65536))
+unfolding drawn
+draw-when s n after = (
+  λ d. (d .moves ∙ next-once s, d .says ∙ ap (λ (x : ℕ). x / 65536) (sym (d .moves))),
+  λ p. let e : after ≡ nextState s = p .0 ∙ sym (next-once s) in record { says = p .1 ∙ ap (λ (x : ℕ). x / 65536) e; moves = e },
+)
 
 pub states-drawn : (s : ℕ) → States s (λ k. stateAfter k s)
 states-drawn s = record { first = state-none s; next = λ k. states-next k s ∙ next-once (stateAfter k s) }
@@ -229,6 +238,70 @@ long-only ts us vs k n A B =
 
     same : taskAt us k ≡ taskAt vs k
     same = task-equal same-C (A .D-is ∙ sym (B .D-is)) (A .T-is ∙ sym (B .T-is)) (A .R-kept ∙ sym (B .R-kept))
+
+-- THE SET, and the state after it
+-- one task is left as it is
+one-stays : (ts : List Task) → length ts ≡ 1 → withLong ts ≡ ts
+unfolding withLong
+one-stays [] n = absurd (omega arith)
+one-stays (τ ∷ []) n = refl
+one-stays (τ ∷ υ ∷ ts) n = absurd (omega arith)
+
+module _ (s number : ℕ) where
+  count-is : length (tasksOfSet s) ≡ countDrawn s
+  count-is = length-tasksDrawn (countDrawn s) (stateAfter 1 s)
+
+  after-is : stateAfter (1 + 4 * length (tasksOfSet s)) s ≡ stateAfterSet s
+  unfolding stateAfterSet
+  after-is = ap (λ (n : ℕ). stateAfter (1 + 4 * n) s) count-is
+
+  -- where the number is no multiple of 4, and where it is one
+  plain-is : (number % 4 ≡ 0 → ⊥) → setDrawn number s ≡ tasksOfSet s
+  unfolding setDrawn
+  plain-is h = rw (ne-eqb (number % 4) 0 h)
+
+  pub long-is : number % 4 ≡ 0 → setDrawn number s ≡ withLong (tasksOfSet s)
+  unfolding setDrawn
+  long-is h = rw (eq-eqb (number % 4) 0 h)
+
+  -- the definitions give what the paper has
+  pub seed-gives : FromSeed s number (setDrawn number s) (stateAfterSet s)
+  seed-gives = split (number % 4) 0 (λ l. multiple (omega arith)) (λ l. plain (λ e. omega arith))
+    where
+      there : {us : List Task} → setDrawn number s ≡ us → FromSeed s number us (stateAfter (1 + 4 * length (tasksOfSet s)) s) → FromSeed s number (setDrawn number s) (stateAfterSet s)
+      there e x = subst (λ (us : List Task). FromSeed s number us (stateAfterSet s)) (sym e) (subst (FromSeed s number _) after-is x)
+
+      plain : (number % 4 ≡ 0 → ⊥) → FromSeed s number (setDrawn number s) (stateAfterSet s)
+      plain h = there (plain-is h) (FromSeed.as-drawn (states-drawn s) (set-drawn s) (inl h))
+
+      multiple : number % 4 ≡ 0 → FromSeed s number (setDrawn number s) (stateAfterSet s)
+      multiple h =
+          split (length (tasksOfSet s)) 1
+          (λ l.
+          let n : length (tasksOfSet s) ≡ 1 = omega (arith, count-is, count-low s) in
+          there (long-is h ∙ one-stays (tasksOfSet s) n) (FromSeed.as-drawn (states-drawn s) (set-drawn s) (inr n)))
+          (λ l.
+          let k : ℕ = length (tasksOfSet s) - 1 in
+          let n : length (tasksOfSet s) ≡ suc k = omega arith in
+          there (long-is h) (FromSeed.with-long (states-drawn s) (set-drawn s) h (omega arith) n (long-put (tasksOfSet s) k n (omega arith))))
+
+  -- and the paper has nothing else
+  pub seed-only : {us : List Task} {after : ℕ} → FromSeed s number us after → (us ≡ setDrawn number s) × (after ≡ stateAfterSet s)
+  seed-only (FromSeed.as-drawn {σ = σ} {ts = ts} S D c) =
+      let e : ts ≡ tasksOfSet s = set-only (states-only S) ts (tasksOfSet s) D (set-drawn s) in
+      (e ∙ sym (kept c e), states-only S (1 + 4 * length ts) ∙ ap (λ (us : List Task). stateAfter (1 + 4 * length us) s) e ∙ after-is)
+    where
+      kept : (number % 4 ≡ 0 → ⊥) ⊎ (length ts ≡ 1) → ts ≡ tasksOfSet s → setDrawn number s ≡ tasksOfSet s
+      kept (inl h) e = plain-is h
+      kept (inr n) e =
+          split (number % 4) 0
+          (λ l. long-is (omega arith) ∙ one-stays (tasksOfSet s) (sym (ap (λ (us : List Task). length us) e) ∙ n))
+          (λ l. plain-is (λ h. omega arith))
+  seed-only (FromSeed.with-long {σ = σ} {ts = ts} {us = us} {k = k} S D h low n L) =
+      let e : ts ≡ tasksOfSet s = set-only (states-only S) ts (tasksOfSet s) D (set-drawn s) in (
+        long-only ts us (withLong ts) k n L (long-put ts k n low) ∙ ap withLong e ∙ sym (long-is h),
+        states-only S (1 + 4 * length ts) ∙ ap (λ (us : List Task). stateAfter (1 + 4 * length us) s) e ∙ after-is,
+      )
 
 -- THE WORDS
 -- a table's tasks, back from their words

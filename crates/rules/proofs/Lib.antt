@@ -53,6 +53,8 @@ pub mod First
 pub mod Drawn
 pub mod DrawnFine
 pub mod DrawnSets
+pub mod LongKernel
+pub mod DrawnTexts
 pub mod Generated
 -- the starred sets
 pub mod Stars

@@ -4,12 +4,15 @@ use Prim.Native.Nat.{ℕ, zero, suc, _+_, _*_, _/_, _%_, _≤_, _<_}
 use native.Mathlib.Omega.{arith}
 use mathlib.Core.List.{List, [], _∷_, _++_, append-assoc}
 use mathlib.Core.Bool.{Bool, true, false, _&&_}
+use mathlib.Core.Option.{none}
 use lib.Dec.{leb}
 use lib.ListN.{length, getD}
 use borrow.Author.Tests.{leb-true, le-leb}
 use Rattle.rules.specs.Choice.{if_then_else_}
+use Rattle.rules.specs.Table.{tableRefusal}
 use Rattle.rules.specs.Text.{Read, got, bad, Lines, took, stop, ahead, orStop, keyOf, tasksKey, readLine, readLines, readSet, digits, line, writeLines, writeSet}
 use Rattle.rules.proofs.Booleans.{both-true}
+use Rattle.rules.proofs.Tables.{valid-of}
 use Rattle.rules.proofs.LineTrips.{line-there, line-back}
 
 -- words that a line can hold
@@ -67,6 +70,12 @@ unfolding readSet writeSet orStop
 set-there n ws rest c p q h =
     let d : length ws / 4 ≡ n = omega arith in
     rw (append-assoc (line tasksKey (digits (length ws / 4))) (writeLines 0 ws) rest, d, line-there tasksKey n (writeLines 0 ws ++ rest) (omega arith), le-leb 1 n p, le-leb n 64 q, ← c, lines-there 0 ws rest h)
+
+-- so the text of a table that is not refused is read as that table
+pub write-then-read : (table after : List ℕ) → tableRefusal table ≡ none → readSet (writeSet table ++ after) ≡ took table after
+write-then-read table after e =
+    let v = valid-of table e in
+    set-there (length table / 4) table after (v .words) (v .some-task) (v .most-tasks) (small-of table (λ i l. v .high i (omega arith)))
 
 -- what is read was written so
 pub record Set-was (s ws rest : List ℕ) : Type 0 where

@@ -1,4 +1,4 @@
--- A call that answers a refusal leaves each lent buffer as it was; the reader hands the whole text back.
+-- A call that answers a refusal leaves each lent buffer and state as it was; the reader hands the whole text back.
 use mathlib.Core.Path.{_≡_}
 use Prim.Native.Nat.{ℕ}
 use native.Mathlib.Omega.{arith}
@@ -10,6 +10,7 @@ use Rattle.rules.specs.Dispatch.{Job, lateJob}
 use Rattle.rules.specs.Answers.{readRefusal, readAnswer, readTable, readRest, writeRefusal, writeAnswer, writeBuffer, timing, scheduleRows, scheduleRefusal, scheduleAnswer, scheduleBuffer, patternRefusal, patternAnswer, patternBuffer}
 use Rattle.rules.specs.Report.{reportRefusal, reportAnswer, reportBuffer}
 use Rattle.rules.specs.Calls.{Reads, Writes, Schedules, Shows, Reports}
+use Rattle.rules.specs.Generator.{drawRefusal, drawAnswer, drawState, drawTable, DrawsSet}
 use Rattle.rules.specs.declared.Refusal.{Refusal}
 use Rattle.rules.specs.declared.ReadAnswer.{ReadAnswer}
 use Rattle.rules.specs.declared.WriteAnswer.{WriteAnswer}
@@ -23,11 +24,11 @@ as-it-was : {X : Type 0} (refused : Refusal → X) (result : X) (o : Option Refu
 as-it-was refused result none r written old exit apart e leaves = absurd (apart e)
 as-it-was refused result (some s) r written old exit apart e leaves = leaves
 
--- and so is the text
-whole-text : (o : Option Refusal) (r : Refusal) (n : ℕ) (text after rest : List ℕ)
-    → ReadAnswer.Refused r ≡ answering o ReadAnswer.Refused (ReadAnswer.Set n) → rest ≡ answering o (λ s. text) after → rest ≡ text
-whole-text none r n text after rest e back = let z : _≡_ {A = ℕ} 0 1 = cc in absurd (omega arith)
-whole-text (some s) r n text after rest e back = back
+-- and so is what a call hands back or moves on
+as-before : {X : Type 0} (o : Option Refusal) (r : Refusal) (n : ℕ) (old new exit : X)
+    → ReadAnswer.Refused r ≡ answering o ReadAnswer.Refused (ReadAnswer.Set n) → exit ≡ answering o (λ s. old) new → exit ≡ old
+as-before none r n old new exit e back = let z : _≡_ {A = ℕ} 0 1 = cc in absurd (omega arith)
+as-before (some s) r n old new exit e back = back
 
 -- a timing is no refusal
 no-timing : (n : ℕ) (o : Option Job) (r : Refusal) → ScheduleAnswer.Refused r ≡ timing n o → ⊥
@@ -37,7 +38,7 @@ no-timing n (some j) r e = let z : _≡_ {A = ℕ} 0 1 = cc in omega arith
 pub read-untouched : (text table rest exit : List ℕ) (r : Refusal) → Reads text table (ReadAnswer.Refused r) rest exit → (rest ≡ text) × (exit ≡ table)
 unfolding readAnswer readTable readRest
 read-untouched text table rest exit r c = (
-  whole-text (readRefusal text table) r _ text _ rest (c .says) (c .hands-back),
+  as-before (readRefusal text table) r _ text _ rest (c .says) (c .hands-back),
   as-it-was ReadAnswer.Refused _ (readRefusal text table) r _ table exit (λ e. let z : _≡_ {A = ℕ} 0 1 = cc in omega arith) (c .says) (c .leaves),
 )
 
@@ -61,3 +62,10 @@ pub report-untouched : (n : ℕ) (text out exit : List ℕ) (r : Refusal) → Re
 unfolding reportAnswer reportBuffer
 report-untouched n text out exit r c =
     as-it-was ReportAnswer.Refused _ (reportRefusal n text out) r _ out exit (λ e. let z : _≡_ {A = ℕ} 0 1 = cc in omega arith) (c .says) (c .leaves)
+
+pub draw-untouched : (s number after : ℕ) (table exit : List ℕ) (r : Refusal) → DrawsSet s number table (ReadAnswer.Refused r) after exit → (after ≡ s) × (exit ≡ table)
+unfolding drawAnswer drawState drawTable
+draw-untouched s number after table exit r c = (
+  as-before (drawRefusal s number table) r _ s _ after (c .says) (c .moves),
+  as-it-was ReadAnswer.Refused _ (drawRefusal s number table) r _ table exit (λ e. let z : _≡_ {A = ℕ} 0 1 = cc in omega arith) (c .says) (c .leaves),
+)

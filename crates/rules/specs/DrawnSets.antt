@@ -1,5 +1,6 @@
 -- What is drawn, in the paper's words: the states one after another, the tasks by their draws, the long kernel. Document 02, 1/14.
 use mathlib.Core.Path.{_≡_}
+use mathlib.Core.Logic.{_⊎_}
 use Prim.Native.Nat.{ℕ, suc, _+_, _*_, _/_, _%_, _≤_, _<_}
 use mathlib.Core.List.{List}
 use lib.ListN.{length}
@@ -28,6 +29,13 @@ pub record LongAt (k : ℕ) (ts us : List Task) : Type 0 where
   pub R-kept : taskAt us k .R ≡ taskAt ts k .R
   pub C-most : (i : ℕ) → i < k → taskAt us k .C ≤ taskAt us i .D
   pub C-one : (i : ℕ) × (i < k) × (taskAt us k .C ≡ taskAt us i .D)
+
+-- the set of a number that is drawn from a state, and the state after it: as drawn, where the number is no multiple of 4 or there is one task only;
+-- else with the long kernel in the place of the last
+pub data FromSeed (s number : ℕ) : List Task → ℕ → Type 0 where
+  as-drawn : {σ : ℕ → ℕ} {ts : List Task} → States s σ → SetOf σ ts → (number % 4 ≡ 0 → ⊥) ⊎ (length ts ≡ 1) → FromSeed s number ts (σ (1 + 4 * length ts))
+  with-long : {σ : ℕ → ℕ} {ts us : List Task} {k : ℕ} → States s σ → SetOf σ ts → number % 4 ≡ 0 → 1 ≤ k → length ts ≡ suc k → LongAt k ts us
+      → FromSeed s number us (σ (1 + 4 * length ts))
 
 -- each task as it is drawn: T 1 to 1,000, C 1 to T, D 1 to 2,000, R 0 to 999
 pub record Short (τ : Task) : Type 0 where

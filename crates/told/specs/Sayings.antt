@@ -1,6 +1,7 @@
--- What is told of each answer: the rules' number and values, with two values that are the probe's own.
+-- What is told of each answer: the rules' number and values, with those that are the probe's own.
 use Prim.Native.Nat.{ℕ}
 use mathlib.Core.List.{List, [], _∷_, _++_}
+use Rattle.rules.specs.Refusals.{numberOf}
 use Rattle.rules.specs.Told.{Told, _with_, numberTold, valuesTold, readTold, judgedTold, verdictTold}
 use Rattle.rules.specs.declared.Blocker.{Blocker}
 use Rattle.rules.specs.declared.Verdict.{Verdict}
@@ -37,3 +38,12 @@ verdictProbed (VerdictAnswer.Judged (Verdict.Meets σ)) = judgedTold (Verdict.Me
 verdictProbed (VerdictAnswer.Judged (Verdict.Misses L b)) = missesProbed L b
 verdictProbed (VerdictAnswer.Judged Verdict.TooFar) = judgedTold Verdict.TooFar
 verdictProbed (VerdictAnswer.Refused r) = verdictTold (VerdictAnswer.Refused r)
+
+-- a draw: the number drawn, and the state after it
+abbrev pub drawProbed : ℕ → ℕ → Told
+drawProbed n after = 0 with (n ∷ after ∷ [])
+
+-- a set drawn: the state after it, beside the task count; of a refusal its number, and the state
+abbrev pub setProbed : ReadAnswer → ℕ → Told
+setProbed (ReadAnswer.Set n) after = readTold (ReadAnswer.Set n) also after
+setProbed (ReadAnswer.Refused r) after = numberOf r with (after ∷ [])

@@ -1,7 +1,7 @@
 // Each answer told as a number with values, in code; rules/specs/Told.antt has the same as definitions. For the probe.
 ghost use mathlib.Core.Path.{_≡_};
 ghost use Rattle.rules.specs.Told.{refusalTold, writeTold, scheduleTold, patternTold};
-ghost use Rattle.told.specs.Sayings.{said, readProbed, missesProbed, verdictProbed};
+ghost use Rattle.told.specs.Sayings.{said, readProbed, missesProbed, verdictProbed, setProbed};
 use rules::Blocker;
 use rules::Carried;
 use rules::PatternAnswer;
@@ -110,5 +110,15 @@ pub fn say_pattern(answer: PatternAnswer) -> Saying
     match answer {
         PatternAnswer::Rows(n) => Saying::One(0, n),
         PatternAnswer::Refused(r) => say_refusal(r),
+    }
+}
+
+// A set drawn, and the state after it.
+pub fn say_set(answer: ReadAnswer, after: u32) -> Saying
+    ensures { λ s. ⌜ said s ≡ setProbed answer after ⌝ }
+{
+    match answer {
+        ReadAnswer::Set(n) => Saying::Two(0, n as u64, after as u64),
+        ReadAnswer::Refused(r) => Saying::One(numbers::refusal_number(r), after as u64),
     }
 }

@@ -20,6 +20,9 @@ extern "C" {
                      out: *mut u64, out_length: usize) -> u32;
     fn probe_pattern(table: *const u32, table_length: usize, rows: *mut u64, rows_length: usize,
                      out: *mut u64, out_length: usize) -> u32;
+    fn probe_draw(state: u32, out: *mut u64, out_length: usize) -> u32;
+    fn probe_generate(state: u32, number: u32, table: *mut u32, table_length: usize,
+                      out: *mut u64, out_length: usize) -> u32;
 }
 
 // Each wrapper lends whole slices, so every pointer is valid for its length during the call.
@@ -78,5 +81,15 @@ pub fn pattern(table: &[u32], rows: &mut [u64], out: &mut [u64]) -> u32 {
             out.as_mut_ptr(),
             out.len(),
         )
+    }
+}
+
+pub fn draw(state: u32, out: &mut [u64]) -> u32 {
+    unsafe { probe_draw(state, out.as_mut_ptr(), out.len()) }
+}
+
+pub fn generate(state: u32, number: u32, table: &mut [u32], out: &mut [u64]) -> u32 {
+    unsafe {
+        probe_generate(state, number, table.as_mut_ptr(), table.len(), out.as_mut_ptr(), out.len())
     }
 }

@@ -65,3 +65,18 @@ pub fn pattern(table: &[u32], rows: &mut [u64]) -> Answer {
         Err(refusal) => refused(refusal),
     }
 }
+
+pub fn draw(state: u32) -> Answer {
+    let mut after = state;
+    let number = oracle::draw(&mut after);
+    answer(0, &[u64::from(number), u64::from(after)])
+}
+
+/// The state comes last, after a refusal too.
+pub fn generate(state: u32, number: u32, table: &mut [u32]) -> Answer {
+    let mut after = state;
+    match oracle::generate(&mut after, number, table) {
+        Ok(tasks) => answer(0, &[tasks as u64, u64::from(after)]),
+        Err(refusal) => answer(refusal.number(), &[u64::from(after)]),
+    }
+}

@@ -115,6 +115,24 @@ impl Checker {
         unchanged("probe_pattern", &copy, table, input)
     }
 
+    pub fn draw(&mut self, state: u32) -> Outcome {
+        let input = || format!("state {state}");
+        let ours = |_: &mut [u64], out: &mut [u64]| boundary::draw(state, out);
+        let wanted = self.check("probe_draw", input, 0, ours, |_| answer::draw(state))?;
+        self.tally.shades("probe_draw", &shades::of_draw(state, &wanted));
+        Ok(())
+    }
+
+    pub fn generate(&mut self, state: u32, number: u32, length: usize) -> Outcome {
+        let input = || format!("state {state}, number {number}");
+        let ours =
+            |table: &mut [u32], out: &mut [u64]| boundary::generate(state, number, table, out);
+        let theirs = |table: &mut [u32]| answer::generate(state, number, table);
+        let wanted = self.check("probe_generate", input, length, ours, theirs)?;
+        self.tally.shades("probe_generate", &shades::of_generate(state, number, &wanted));
+        Ok(())
+    }
+
     /// Runs both sides, holds one to the other and counts the case; gives back what was wanted.
     fn check<W: Word>(
         &mut self,

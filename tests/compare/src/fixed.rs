@@ -77,6 +77,8 @@ fn short_outs(checker: &mut Checker) -> Outcome {
         checker.schedule(&table, 8, 20)?;
         checker.verdict(&table)?;
         checker.pattern(&table, 20)?;
+        checker.draw(7)?;
+        checker.generate(7, 0, 4)?;
     }
     Ok(())
 }

@@ -7,6 +7,7 @@ mod answer;
 mod checks;
 mod difference;
 mod fixed;
+mod generator;
 mod lent;
 mod rounds;
 mod shades;
@@ -58,5 +59,6 @@ fn rounds_asked_for() -> Option<usize> {
 
 fn compare(checker: &mut Checker, rounds: usize) -> Outcome {
     fixed::run(checker)?;
-    rounds::run(checker, rounds)
+    rounds::run(checker, rounds)?;
+    generator::run(checker, rounds)
 }

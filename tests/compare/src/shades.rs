@@ -3,6 +3,7 @@
 
 use crate::checks::Done;
 use boundary::NO_BLOCKER;
+use oracle::generator::{words_needed, MOST_DRAWN};
 use oracle::{Verdict, HORIZON};
 
 /// Names and whether they apply.
@@ -111,4 +112,72 @@ impl Row {
         let release = u64::from(task[3]) + row[1] * u64::from(task[2]);
         Row { start: row[2], finish: row[3], deadline: release + u64::from(task[1]) }
     }
+}
+
+pub fn of_draw(state: u32, wanted: &Done<u64>) -> Shades {
+    if wanted.number != 0 {
+        return vec![];
+    }
+    let (low, product) = state.overflowing_mul(1_664_525);
+    let sum = low.checked_add(1_013_904_223).is_none();
+    vec![
+        ("0 with no wrap", !product && !sum),
+        ("0 with the sum wrapped", !product && sum),
+        ("0 with the product wrapped", product && !sum),
+        ("0 with both wrapped", product && sum),
+    ]
+}
+
+pub fn of_generate(state: u32, number: u32, wanted: &Done<u32>) -> Shades {
+    let length = wanted.buffer.content().len();
+    match wanted.number {
+        0 => [of_kind(state, number), of_words(&plain_set(state))].concat(),
+        6 => vec![
+            ("6 with no table", length == 0),
+            ("6 by one word", length + 1 == words_needed(state)),
+        ],
+        _ => vec![],
+    }
+}
+
+/// The set as it is drawn, with no long kernel.
+fn plain_set(mut state: u32) -> Vec<u32> {
+    let mut table = [0; MOST_DRAWN];
+    let tasks = oracle::generate(&mut state, 1, &mut table).expect("the table is long enough");
+    table[..4 * tasks].to_vec()
+}
+
+fn of_kind(state: u32, number: u32) -> Shades {
+    let deadlines: Vec<u32> = plain_set(state).chunks_exact(4).map(|task| task[1]).collect();
+    let tasks = deadlines.len();
+    let fourth = number.is_multiple_of(4);
+    let long = fourth && tasks > 1;
+    let others = &deadlines[..tasks - 1];
+    let least = others.iter().min();
+    vec![
+        ("0 plain", !fourth),
+        ("0 with the long kernel", long),
+        ("0 a multiple of 4 with one task", fourth && tasks == 1),
+        ("0 a multiple of 5, not of 4", number.is_multiple_of(5) && !fourth),
+        ("0 with 8 tasks", tasks == 8),
+        ("long beside one task", long && tasks == 2),
+        ("long beside seven tasks", long && tasks == 8),
+        ("long, its own D was the least", long && least > deadlines.last()),
+        ("long, the first D is the least", long && others.len() > 1 && least == others.first()),
+        ("long, the last D of the others is the least", long && least == others.last()),
+    ]
+}
+
+fn of_words(set: &[u32]) -> Shades {
+    let some = |test: fn(&[u32]) -> bool| set.chunks_exact(4).any(test);
+    vec![
+        ("C of 1", some(|task| task[0] == 1)),
+        ("C equal to T", some(|task| task[0] == task[2])),
+        ("D of 1", some(|task| task[1] == 1)),
+        ("D of 2000", some(|task| task[1] == 2000)),
+        ("T of 1", some(|task| task[2] == 1)),
+        ("T of 1000", some(|task| task[2] == 1000)),
+        ("R of 0", some(|task| task[3] == 0)),
+        ("R of 999", some(|task| task[3] == 999)),
+    ]
 }

@@ -7,7 +7,7 @@ use std::fmt;
 
 /// For each call every answer that it can give, then the shades that have to be met as well.
 #[rustfmt::skip]
-const KNOWN: [(&str, &[&str], &[&str]); 7] = [
+const KNOWN: [(&str, &[&str], &[&str]); 12] = [
     ("probe_read", &["0", "6", "7", "999"],
      &["0 with a rest", "0 with no rest", "6 by one word", "7 on line 1", "7 on a later line",
        "7 with too short a table"]),
@@ -21,6 +21,19 @@ const KNOWN: [(&str, &[&str], &[&str]); 7] = [
        "100 with 64 tasks", "101 with 64 tasks", "102 with 64 tasks"]),
     ("probe_pattern", &["0", "1", "2", "3", "4", "6", "8", "999"],
      &["0 with a blocker", "0 with no blocker", "8 with too short a buffer", "6 by one word"]),
+    ("probe_draw", &["0", "999"],
+     &["0 with no wrap", "0 with the sum wrapped", "0 with the product wrapped",
+       "0 with both wrapped"]),
+    ("probe_generate", &["0", "6", "999"],
+     &["0 plain", "0 with the long kernel", "0 a multiple of 4 with one task",
+       "0 a multiple of 5, not of 4", "0 with 8 tasks", "long beside one task",
+       "long beside seven tasks", "long, its own D was the least",
+       "long, the first D is the least", "long, the last D of the others is the least",
+       "C of 1", "C equal to T", "D of 1", "D of 2000", "T of 1", "T of 1000", "R of 0",
+       "R of 999", "6 with no table", "6 by one word"]),
+    ("a state carried on by draws", &["0"], &[]),
+    ("a state carried on by sets", &["0", "6"], &[]),
+    ("generate, then judge", &["a verdict, and the right one"], &[]),
     ("write, then read", &["the numbers came back"], &[]),
     ("read, then write", &["the bytes came back"], &[]),
 ];

@@ -1,5 +1,6 @@
 //! Round trips through the probe alone.
 
+use crate::answer;
 use crate::checks::Checker;
 use crate::difference::{show_table, show_text, Difference, Outcome};
 use boundary::LEAST_OUT;
@@ -40,6 +41,25 @@ pub fn read_then_write(checker: &mut Checker, set: &[u8], after: &[u8]) -> Outco
         && written[0] as usize == set.len()
         && back[..set.len()] == *set;
     end(checker, "read, then write", "the bytes came back", same, || show_text(&text))
+}
+
+/// What the probe draws is judged as the oracle judges it, not refused, and its text is read back to
+/// it.
+pub fn generate_then_judge(checker: &mut Checker, state: u32, number: u32) -> Outcome {
+    let mut table = [0xdead_beef; MOST_WORDS];
+    let mut drawn = [0; LEAST_OUT];
+    let mut judged = [0; LEAST_OUT];
+    let first = boundary::generate(state, number, &mut table, &mut drawn);
+    let set = &table[..(4 * drawn[0] as usize).min(MOST_WORDS)];
+    let second = boundary::verdict(set, &mut judged);
+    let wanted = answer::verdict(set);
+    let same = first == 0
+        && (100..=102).contains(&second)
+        && second == wanted.number
+        && judged[..wanted.carries.len()] == wanted.carries[..];
+    let input = || format!("state {state}, number {number}, {}", show_table(set));
+    end(checker, "generate, then judge", "a verdict, and the right one", same, input)?;
+    write_then_read(checker, set)
 }
 
 fn end(

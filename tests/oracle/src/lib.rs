@@ -1,12 +1,14 @@
-//! An independent implementation of document 01, "Scope of work and exact rules": "the paper".
+//! An independent implementation of document 01, "Scope of work and exact rules": "the paper",
+//! and of the generator of document 02, "Tickets in the order received".
 //!
-//! It is written from that paper alone and shares nothing with the proved code.
+//! It is written from these two alone and shares nothing with the proved code.
 //! Every call lends its buffers as the proved calls do: what is not written stays the same,
 //! and a refusal leaves everything as it was.
 
 pub mod call;
 pub mod definitions;
 pub mod dispatch;
+pub mod generator;
 pub mod numbers;
 pub mod pattern;
 pub mod program;
@@ -18,6 +20,7 @@ pub mod verdict;
 pub mod writer;
 
 pub use call::tile_check;
+pub use generator::{draw, generate};
 pub use pattern::pattern;
 pub use reader::read;
 pub use refusal::Refusal;

@@ -1,7 +1,9 @@
-//! The paper's sets with their outcome, and the fast walks held to the plain definitions.
+//! The paper's sets with their outcome, the fast walks held to the plain definitions, and drawn sets
+//! worked out by hand.
 
 use crate::definitions;
 use crate::dispatch::{dispatch, Run, Stream};
+use crate::generator::{texts, words_needed, MOST_DRAWN};
 use crate::pattern::named;
 use crate::program::output;
 use crate::table::tasks;
@@ -383,4 +385,117 @@ fn numbers_of_the_paper() {
     let mut given: Vec<u32> = numbers::numbers().iter().map(|&(_, number)| number).collect();
     given.sort_unstable();
     assert_eq!(given, [1, 2, 3, 4, 5, 6, 7, 8, 100, 101, 102]);
+}
+
+/// The number drawn from a state, and the state after it.
+fn drawn(mut state: u32) -> (u32, u32) {
+    (draw(&mut state), state)
+}
+
+#[test]
+fn draws_by_hand() {
+    assert_eq!(drawn(0), (15_470, 1_013_904_223));
+    assert_eq!(drawn(1), (15_496, 1_015_568_748));
+    assert_eq!(drawn(1_013_904_223), (18_256, 1_196_435_762));
+    assert_eq!(drawn(u32::MAX), (15_445, 1_012_239_698));
+}
+
+/// The sum wraps, then the product too; then the least and the greatest state, and the ends of the
+/// lowest number drawn.
+#[test]
+fn draws_around_the_wrap() {
+    assert_eq!(drawn(2580), (15_463, 1_013_411_427));
+    assert_eq!(drawn(2581), (15_488, 1_015_075_952));
+    assert_eq!(drawn(634_785_765), (0, 0));
+    assert_eq!(drawn(653_637_408), (65_535, u32::MAX));
+    assert_eq!(drawn(2_142_943_008), (0, 65_535));
+    assert_eq!(drawn(2_124_091_365), (1, 65_536));
+}
+
+/// The words of a set and the state after it; the rest of the table has to stay.
+fn set_of(mut state: u32, number: u32) -> (Vec<u32>, u32) {
+    let mut table = [u32::MAX; MOST_DRAWN + 3];
+    let words = 4 * generate(&mut state, number, &mut table).unwrap();
+    assert!(table[words..].iter().all(|&word| word == u32::MAX));
+    (table[..words].to_vec(), state)
+}
+
+#[test]
+fn sets_by_hand() {
+    let one = vec![259, 751, 867, 233];
+    assert_eq!(set_of(7, 1), (one, 211_918_734));
+    let two = vec![59, 622, 145, 989, 511, 956, 683, 420];
+    assert_eq!(set_of(2, 3), (two, 2_255_752_769));
+}
+
+/// The last task's own D is the least of all in both, and isn't looked at.
+#[test]
+fn the_long_kernel() {
+    let two = vec![376, 1771, 997, 154, 1771, 65_535, 65_535, 934];
+    for number in [0, 4, 8, 100, 1 << 31, u32::MAX - 3] {
+        assert_eq!(set_of(13, number), (two.clone(), 520_012_464));
+    }
+    let others = [
+        [253, 1770, 257, 170],
+        [748, 1946, 751, 277],
+        [99, 338, 129, 227],
+        [2, 1735, 7, 381],
+        [34, 250, 426, 396],
+        [131, 199, 502, 813],
+    ];
+    let with = |last: [u32; 4]| ([&others.concat()[..], &last].concat(), 1_946_028_059);
+    assert_eq!(set_of(0, 0), with([199, 65_535, 65_535, 694]));
+    for number in [1, 2, 3, 5, 6, 7, 10, u32::MAX] {
+        assert_eq!(set_of(0, number), with([307, 124, 396, 694]));
+    }
+}
+
+#[test]
+fn one_task_is_never_the_long_kernel() {
+    for number in 0..9 {
+        assert_eq!(set_of(1, number), (vec![83, 196, 201, 312], 217_083_232));
+    }
+}
+
+#[test]
+fn a_short_table_leaves_table_and_state() {
+    for (seed, needed) in [(0, 28), (2, 8), (7, 4)] {
+        assert_eq!(words_needed(seed), needed);
+        for number in [0, 1] {
+            let (mut state, mut table) = (seed, vec![77; needed]);
+            let short = &mut table[..needed - 1];
+            assert_eq!(generate(&mut state, number, short), Err(Refusal::ShortBuffer));
+            assert_eq!(generate(&mut state, number, &mut []), Err(Refusal::ShortBuffer));
+            assert_eq!((state, &table), (seed, &vec![77; needed]));
+            assert_eq!(generate(&mut state, number, &mut table), Ok(needed / 4));
+            assert_eq!((table, state), set_of(seed, number));
+        }
+    }
+}
+
+#[test]
+fn drawn_sets_are_not_refused() {
+    let mut counts = [0; 9];
+    for state in (0..2000).map(|step| step * 2_147_483) {
+        for number in [0, 1] {
+            let (table, _) = set_of(state, number);
+            assert!(verdict(&table).is_ok(), "{state}, {number}");
+            counts[table.len() / 4] += 1;
+        }
+    }
+    assert!(counts[0] == 0 && counts[1..].iter().all(|&count| count > 100), "{counts:?}");
+}
+
+#[test]
+fn texts_are_numbered_from_0_and_share_one_state() {
+    assert_eq!(texts(7, 0), b"");
+    assert_eq!(texts(7, 1), b"tasks=1\nc=259\nd=751\nt=867\nr=233\n");
+    let mut state = 0;
+    let mut wanted = Vec::new();
+    for number in 0..9 {
+        let (table, after) = set_of(state, number);
+        wanted.extend(set_text(&table));
+        state = after;
+    }
+    assert_eq!(texts(0, 9), wanted);
 }

@@ -1,5 +1,5 @@
 -- Sets drawn one after another and their texts, as code makes them: the set in a table with room for eight tasks, how long its text can be, and the
--- texts of several sets, the first one before the others.
+-- state after several sets, the first one before the others.
 use mathlib.Core.Path.{_≡_, refl, sym, ap, _∙_}
 use Prim.Native.Nat.{ℕ, zero, suc, _*_, _/_, _%_, _^_, _≤_, _<_}
 use native.Mathlib.Decide.{decLt}
@@ -11,7 +11,7 @@ use lib.Seq.{take-at}
 use borrow.Author.Tests.{le-ltb}
 use Rattle.rules.specs.Table.{tableRefusal}
 use Rattle.rules.specs.Text.{digits, line, keyOf, writeLines, writeSet}
-use Rattle.rules.specs.Generator.{countDrawn, stateAfterSet, wordsDrawn, drawRefusal, drawAnswer, drawState, drawTable, DrawsSet, stateAfterSets, generated}
+use Rattle.rules.specs.Generator.{countDrawn, stateAfterSet, wordsDrawn, drawRefusal, drawAnswer, drawState, drawTable, DrawsSet, stateAfterSets}
 use Rattle.rules.specs.declared.ReadAnswer.{ReadAnswer}
 use Rattle.rules.proofs.Tables.{valid-of}
 use Rattle.rules.proofs.Digits.{width-one, width-more}
@@ -80,20 +80,12 @@ module _ {s number : ℕ} {table : List ℕ} {answer : ReadAnswer} {after : ℕ}
       let there : exit ≡ wordsDrawn number s ++ drop (length (wordsDrawn number s)) table = draws .leaves ∙ rw fits in
       ap (take n) there ∙ take-at (wordsDrawn number s) (drop (length (wordsDrawn number s)) table) n (length-wordsDrawn number s ∙ sym e)
 
--- SEVERAL SETS: none
-pub generated-none : (k s : ℕ) → generated 0 k s ≡ []
-unfolding generated
-generated-none k s = refl
-
+-- THE STATE AFTER SEVERAL SETS: none
 pub sets-none : (s : ℕ) → stateAfterSets 0 s ≡ s
 unfolding stateAfterSets
 sets-none s = refl
 
 -- the first, and those after it
-pub generated-more : (n k s : ℕ) → generated (suc n) k s ≡ writeSet (wordsDrawn k s) ++ generated n (suc k) (stateAfterSet s)
-unfolding generated
-generated-more n k s = refl
-
 pub sets-more : (n s : ℕ) → stateAfterSets (suc n) s ≡ stateAfterSets n (stateAfterSet s)
 unfolding stateAfterSets
 sets-more n s = refl

@@ -8,7 +8,8 @@ use lib.Seq.{drop-drop}
 use Rattle.rules.specs.Text.{writeSet}
 use Rattle.rules.specs.Generator.{wordsDrawn, stateAfterSets, generated}
 use Rattle.rules.proofs.Slices.{lent-end, end-back}
-use Rattle.rules.proofs.Generated.{text-length, generated-none, generated-more, sets-none, sets-more}
+use Rattle.rules.proofs.DrawnTexts.{texts-none, texts-more}
+use Rattle.rules.proofs.Generated.{text-length, sets-none, sets-more}
 use Rattle.texts.specs.Texts.{textMost, PutsSet, PutsSets}
 
 -- one text has 264 bytes at most
@@ -87,7 +88,7 @@ module _ (s₀ number count : ℕ) (old : List ℕ) where
                 append-assoc (so-far .texts) text (generated (count - (i + 1)) (number + (i + 1)) after)
                 ∙ ap (λ (l : List ℕ). so-far .texts ++ l)
                 (ap₂ (λ (n σ : ℕ). text ++ generated (count - (i + 1)) n σ) k (puts .moves)
-                ∙ sym (generated-more (count - (i + 1)) (number + i) s)
+                ∙ sym (texts-more (count - (i + 1)) (number + i) s)
                 ∙ ap (λ (n : ℕ). generated n (number + i) s) (sym left))
                 ∙ so-far .due;
             moved =
@@ -110,7 +111,7 @@ module _ (s₀ number count : ℕ) (old : List ℕ) where
         let z : count - i ≡ 0 = omega arith in
         let all : so-far .texts ≡ generated count number s₀ =
         sym (append-nil (so-far .texts))
-        ∙ ap (λ (l : List ℕ). so-far .texts ++ l) (sym (generated-none (number + i) s) ∙ ap (λ (n : ℕ). generated n (number + i) s) (sym z))
+        ∙ ap (λ (l : List ℕ). so-far .texts ++ l) (sym (texts-none (number + i) s) ∙ ap (λ (n : ℕ). generated n (number + i) s) (sym z))
         ∙ so-far .due
         in
         let n : at ≡ length (generated count number s₀) = sym (so-far .many) ∙ ap length all in

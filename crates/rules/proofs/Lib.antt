@@ -55,5 +55,6 @@ pub mod DrawnFine
 pub mod DrawnSets
 pub mod LongKernel
 pub mod DrawnTexts
+pub mod Generated
 -- the starred sets
 pub mod Stars

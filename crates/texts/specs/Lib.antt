@@ -1,0 +1,2 @@
+-- What the texts of sets drawn promise.
+pub mod Texts

@@ -1,0 +1,2 @@
+-- Laws of the walk over a word's digits.
+mod Walk

@@ -1,0 +1,2 @@
+-- What the program takes for a number.
+pub mod Word

@@ -55,6 +55,5 @@ pub mod DrawnFine
 pub mod DrawnSets
 pub mod LongKernel
 pub mod DrawnTexts
-pub mod Generated
 -- the starred sets
 pub mod Stars

@@ -13,7 +13,7 @@ use Rattle.rules.specs.declared.WriteAnswer.{WriteAnswer}
 use Rattle.rules.proofs.Calls.{write-text}
 use Rattle.rules.proofs.Drawn.{count-high}
 use Rattle.rules.proofs.DrawnFine.{drawn-fine}
-use Rattle.rules.proofs.Generated.{text-length, draw-answers, draw-moves, draw-words}
+use Rattle.rules.proofs.DrawnTexts.{text-length, draw-answers, draw-moves, draw-words}
 use Rattle.texts.specs.Texts.{textMost, PutsSet}
 
 module _ {s number : ℕ} {table : List ℕ} {drawn : ReadAnswer} {after : ℕ} {words : List ℕ} (room : 32 ≤ length table)

@@ -8,8 +8,7 @@ use lib.Seq.{drop-drop}
 use Rattle.rules.specs.Text.{writeSet}
 use Rattle.rules.specs.Generator.{wordsDrawn, stateAfterSets, generated}
 use Rattle.rules.proofs.Slices.{lent-end, end-back}
-use Rattle.rules.proofs.DrawnTexts.{texts-none, texts-more}
-use Rattle.rules.proofs.Generated.{text-length, sets-none, sets-more}
+use Rattle.rules.proofs.DrawnTexts.{text-length, sets-none, sets-more, texts-none, texts-more}
 use Rattle.texts.specs.Texts.{textMost, PutsSet, PutsSets}
 
 -- one text has 264 bytes at most

@@ -1,6 +1,7 @@
 // The program: called with SEED and COUNT, it prints the texts of COUNT sets drawn from SEED, one after another.
 ghost use mathlib.Core.Path.{_≡_};
 ghost use Prim.Native.Nat.{_+_, _^_, _≤_, min};
+ghost use Rattle.rules.specs.Generator.{stateAfterSets};
 ghost use Rattle.tilegen.specs.Word.{numberIn};
 use libc::STDERR_FILENO;
 use stdio::write_output;
@@ -58,11 +59,11 @@ fn argument(i: usize, buf: &mut [u8], most: u32) -> Decimal {
     number_in(&buf[..n], most)
 }
 
-// The lesser of two numbers.
-fn lesser(a: u32, b: u32) -> u32
-    ensures { λ r. ⌜ r ≡ min a b ⌝ }
+// How many of the sets that are left make the next piece.
+fn piece_of(left: u32) -> u32
+    ensures { λ r. ⌜ r ≡ min left 100 ⌝ }
 {
-    if a < b { a } else { b }
+    if left < PIECE { left } else { PIECE }
 }
 
 // Wrong use is told on standard error.
@@ -93,9 +94,10 @@ fn tell_write(sets: u32, written: usize, all: usize) {
     io::write_all(STDERR_FILENO, b" bytes after them\n");
 }
 
-// So many sets are printed, numbered from number on; the answer is whether all of their bytes were written.
+// So many sets are printed, numbered from number on, and the state is moved on; the answer is whether all of their bytes were written.
 fn print_piece(state: &mut u32, number: u32, many: u32) -> bool
     requires { ⌜ (number + many ≤ 2 ^ 32) × (many ≤ 100) ⌝ }
+    ensures { λ _. ⌜ now (state .exit) ≡ stateAfterSets many (now (state .entry)) ⌝ }
 {
     let mut out = [0u8; PIECE_BYTES];
     let all = texts::put_sets(state, number, many, &mut out);
@@ -112,7 +114,7 @@ fn print_sets(seed: u32, count: u32) {
     let mut state = seed;
     let mut number: u32 = 0;
     while number < count {
-        let many = lesser(count - number, PIECE);
+        let many = piece_of(count - number);
         let whole = print_piece(&mut state, number, many);
         if !whole {
             return;

@@ -5,7 +5,7 @@ use Prim.Native.Nat.{ℕ, _*_, _≤_}
 use native.Mathlib.Omega.{arith}
 use lib.ListN.{length}
 use lib.Seq.{length-take-le}
-use Rattle.rules.proofs.Generated.{draw-answers}
+use Rattle.rules.proofs.DrawnTexts.{draw-answers}
 use Rattle.texts.proofs.OneSet.{words-few, write-answers, set-put}
 use borrow.Author.Needs.{needs}
 use Rattle.texts.proofs.put_set.Statement.{statement}

@@ -1,4 +1,4 @@
--- `tilegen::print_piece` meets its contract, which says only that it ends: there is room for 100 texts, and what is written is a part of the room.
+-- `tilegen::print_piece` moves the state on as the sets do. There is room for 100 texts, and what is written is a part of the room.
 use mathlib.Core.Path.{sym}
 use Prim.Native.Nat.{_≤_}
 use native.Mathlib.Omega.{arith}
@@ -32,10 +32,10 @@ tell-write-requires : tie.Need-tell-write-requires
 tell-write-requires c κs = search needs
 
 returns : tie.Need-returns
-returns c = search needs
+returns c = c .before .before .before .before .before .put-sets .ensures .moves
 
 returns-2 : tie.Need-returns-2
-returns-2 c = search needs
+returns-2 c = c .before .before .before .before .put-sets .ensures .moves
 
 pub print-piece-spec : {M : Type 1} → statement M
 print-piece-spec =

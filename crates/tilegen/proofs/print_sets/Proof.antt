@@ -1,23 +1,27 @@
--- `tilegen::print_sets` ends: each piece has one set at least, and no more than are left or than there is room for.
+-- `tilegen::print_sets` ends: each piece has one set at least, and no more than are left or than there is room for. It is drawn from the state after the
+-- sets before it.
+use mathlib.Core.Path.{_≡_, sym, ap, _∙_}
 use Prim.Native.Nat.{_-_, _≤_}
+use Rattle.rules.specs.Generator.{stateAfterSets}
+use Rattle.rules.proofs.DrawnTexts.{sets-none, sets-after}
 use borrow.Author.Needs.{needs}
 use Rattle.tilegen.proofs.print_sets.Statement.{statement}
 use Rattle.tilegen.proofs.print_sets.Tie as tie
 
 abbrev Inv-loop : tie.InvT-loop
-Inv-loop seed count state₀ number₀ state number = number ≤ count
+Inv-loop seed count state₀ number₀ state number = (number ≤ count) × (state ≡ stateAfterSets number seed)
 
 abbrev μ-loop : tie.MeasureT-loop
 μ-loop seed count state₀ number₀ state number = count - number
 
 loop-holds : tie.Need-loop-holds Inv-loop μ-loop
-loop-holds c = search needs
+loop-holds c = (search needs, sym (sets-none _))
 
-sub-lesser : tie.Need-sub-lesser Inv-loop μ-loop
-sub-lesser c = search needs
+sub-piece-of : tie.Need-sub-piece-of Inv-loop μ-loop
+sub-piece-of c = search needs
 
-lesser-requires : tie.Need-lesser-requires Inv-loop μ-loop
-lesser-requires c κs = search needs
+piece-of-requires : tie.Need-piece-of-requires Inv-loop μ-loop
+piece-of-requires c κs = search needs
 
 print-piece-requires : tie.Need-print-piece-requires Inv-loop μ-loop
 print-piece-requires c κs = search needs
@@ -32,7 +36,11 @@ loop-less : tie.Need-loop-less Inv-loop μ-loop
 loop-less c = search needs
 
 loop-again : tie.Need-loop-again Inv-loop μ-loop
-loop-again c = search needs
+loop-again c =
+    let after-piece = c .before in
+    let at-loop = after-piece .before .before .before .before in
+    let many = after-piece .before .before .piece-of .result in
+    (search needs, after-piece .print-piece .ensures ∙ ap (stateAfterSets many) (at-loop .loop .inv .1) ∙ sets-after _ many _)
 
 returns-2 : tie.Need-returns-2 Inv-loop μ-loop
 returns-2 c = search needs
@@ -44,8 +52,8 @@ print-sets-spec =
     Inv-loop
     μ-loop
     loop-holds
-    sub-lesser
-    lesser-requires
+    sub-piece-of
+    piece-of-requires
     print-piece-requires
     returns
     add-number

@@ -87,7 +87,10 @@ pub extern "C" fn probe_draw(state: u32, out: &mut [u64]) -> u32
         return 999;
     }
     let drawn = generator::draw_value(Generator { state: state });
-    tell::tell(out, Saying::Two(0, drawn.number as u64, drawn.after.state as u64))
+    tell::tell(
+        out,
+        Saying::Two(0, drawn.number as u64, drawn.after.state as u64),
+    )
 }
 
 // A set drawn: 0 with the task count and the state after it; 6 with the state.

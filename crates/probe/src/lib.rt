@@ -10,7 +10,6 @@ ghost use Rattle.rules.specs.Generator.{nextState, drawn, drawAnswer, drawState
 ghost use Rattle.told.specs.Sayings.{readProbed, verdictProbed, drawProbed, setProbed};
 ghost use Rattle.probe.specs.Probe.{Probes, byRoom};
 use generator::Generator;
-use told::Saying;
 
 // How many words an out must have.
 const ROOM: usize = 4;
@@ -87,10 +86,7 @@ pub extern "C" fn probe_draw(state: u32, out: &mut [u64]) -> u32
         return 999;
     }
     let drawn = generator::draw_value(Generator { state: state });
-    tell::tell(
-        out,
-        Saying::Two(0, drawn.number as u64, drawn.after.state as u64),
-    )
+    tell::tell(out, told::say_drawn(drawn.number, drawn.after.state))
 }
 
 // A set drawn: 0 with the task count and the state after it; 6 with the state.

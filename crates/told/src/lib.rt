@@ -1,7 +1,7 @@
 // Each answer told as a number with values, in code; rules/specs/Told.antt has the same as definitions. For the probe.
 ghost use mathlib.Core.Path.{_≡_};
 ghost use Rattle.rules.specs.Told.{refusalTold, writeTold, scheduleTold, patternTold};
-ghost use Rattle.told.specs.Sayings.{said, readProbed, missesProbed, verdictProbed, setProbed};
+ghost use Rattle.told.specs.Sayings.{said, readProbed, missesProbed, verdictProbed, drawProbed, setProbed};
 use rules::Blocker;
 use rules::Carried;
 use rules::PatternAnswer;
@@ -111,6 +111,13 @@ pub fn say_pattern(answer: PatternAnswer) -> Saying
         PatternAnswer::Rows(n) => Saying::One(0, n),
         PatternAnswer::Refused(r) => say_refusal(r),
     }
+}
+
+// A number drawn, and the state after it.
+pub fn say_drawn(number: u32, after: u32) -> Saying
+    ensures { λ s. ⌜ said s ≡ drawProbed number after ⌝ }
+{
+    Saying::Two(0, number as u64, after as u64)
 }
 
 // A set drawn, and the state after it.

@@ -65,7 +65,7 @@ pub enum TableAnswer {
     Refused(Refusal),
 }
 
-// The reader's answer: the task count.
+// The answer of the reader, and of each call that fills a table: the task count.
 pub enum ReadAnswer {
     Set(u32),
     Refused(Refusal),

@@ -11,12 +11,20 @@ use lib.ListN.{length, getD}
 use Rattle.rules.specs.Choice.{if_then_else_}
 use Rattle.rules.specs.Table.{tableRefusal, Ranged, Fine}
 use Rattle.rules.specs.Generator.{drawn, stateAfter, countDrawn, taskDrawn, tasksDrawn, longKernel, lastLong, withLong, setDrawn, wordsOf, wordsDrawn}
-use Rattle.rules.specs.DrawnSets.{Short}
 use Rattle.rules.specs.declared.Task.{Task}
 use Rattle.rules.proofs.Drawn.{count-low, count-high, length-wordsDrawn}
 use Rattle.rules.proofs.Refused.{refused-not}
 
--- a task as it is drawn
+-- each task as it is drawn: T 1 to 1,000, C 1 to T, D 1 to 2,000, R 0 to 999
+pub record Short (τ : Task) : Type 0 where
+  pub T-low : 1 ≤ τ .T
+  pub T-high : τ .T ≤ 1000
+  pub C-low : 1 ≤ τ .C
+  pub C-high : τ .C ≤ τ .T
+  pub D-low : 1 ≤ τ .D
+  pub D-high : τ .D ≤ 2000
+  pub R-high : τ .R ≤ 999
+
 pub task-short : (s : ℕ) → Short (taskDrawn s)
 unfolding taskDrawn
 task-short s =

@@ -10,13 +10,13 @@ use lib.ListN.{length}
 use Rattle.rules.specs.Task.{taskAt}
 use Rattle.rules.specs.Demand.{due, Due, Wait, fails}
 use Rattle.rules.specs.Generator.{stateAfter, countDrawn, taskDrawn, tasksDrawn, withLong, setDrawn}
-use Rattle.rules.specs.DrawnSets.{LongAt, Short}
+use Rattle.rules.specs.DrawnSets.{LongAt}
 use Rattle.rules.specs.declared.Task.{Task}
 use Rattle.rules.proofs.Booleans.{split, true-is-not-false}
 use Rattle.rules.proofs.Blockers.{wait-most}
 use Rattle.rules.proofs.Verdicts.{due-in, fails-when}
 use Rattle.rules.proofs.Drawn.{length-tasksDrawn, length-setDrawn}
-use Rattle.rules.proofs.DrawnFine.{task-short}
+use Rattle.rules.proofs.DrawnFine.{Short, task-short}
 use Rattle.rules.proofs.DrawnSets.{task-of, tasksOfSet, long-put, long-is}
 
 -- each task has its part in Due

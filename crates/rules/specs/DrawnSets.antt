@@ -36,13 +36,3 @@ pub data FromSeed (s number : ℕ) : List Task → ℕ → Type 0 where
   as-drawn : {σ : ℕ → ℕ} {ts : List Task} → States s σ → SetOf σ ts → (number % 4 ≡ 0 → ⊥) ⊎ (length ts ≡ 1) → FromSeed s number ts (σ (1 + 4 * length ts))
   with-long : {σ : ℕ → ℕ} {ts us : List Task} {k : ℕ} → States s σ → SetOf σ ts → number % 4 ≡ 0 → 1 ≤ k → length ts ≡ suc k → LongAt k ts us
       → FromSeed s number us (σ (1 + 4 * length ts))
-
--- each task as it is drawn: T 1 to 1,000, C 1 to T, D 1 to 2,000, R 0 to 999
-pub record Short (τ : Task) : Type 0 where
-  pub T-low : 1 ≤ τ .T
-  pub T-high : τ .T ≤ 1000
-  pub C-low : 1 ≤ τ .C
-  pub C-high : τ .C ≤ τ .T
-  pub D-low : 1 ≤ τ .D
-  pub D-high : τ .D ≤ 2000
-  pub R-high : τ .R ≤ 999

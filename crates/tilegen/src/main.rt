@@ -2,10 +2,10 @@
 ghost use mathlib.Core.Path.{_≡_};
 ghost use Prim.Native.Nat.{_+_, _^_, _≤_, min};
 ghost use Rattle.rules.specs.Generator.{stateAfterSets};
-ghost use Rattle.tilegen.specs.Word.{numberIn};
 use libc::STDERR_FILENO;
 use stdio::write_output;
 use texts::TEXT_MOST;
+use word::Decimal;
 
 // The greatest seed, a 32-bit number, and the greatest count, of five digits.
 const SEED_MOST: u32 = 4294967295;
@@ -17,46 +17,13 @@ const PIECE: u32 = 100;
 
 const PIECE_BYTES: usize = 100 * TEXT_MOST;
 
-// What a word is: a number, or not one that is asked for.
-enum Decimal {
-    Number(u32),
-    Wrong,
-}
-
-// The number in a word: one or more decimal digits, with a value of at most most. A word with a greater value is read no further.
-fn number_in(word: &[u8], most: u32) -> Decimal
-    ensures { λ r. ⌜ r ≡ numberIn (now (word .entry)) most ⌝ }
-{
-    if word.len() == 0 {
-        return Decimal::Wrong;
-    }
-    let limit = most as u64;
-    let mut value: u64 = 0;
-    let mut i: usize = 0;
-    while i < word.len() {
-        let b = word[i];
-        if b < b'0' {
-            return Decimal::Wrong;
-        }
-        if b > b'9' {
-            return Decimal::Wrong;
-        }
-        value = value * 10 + (b - b'0') as u64;
-        if value > limit {
-            return Decimal::Wrong;
-        }
-        i += 1;
-    }
-    Decimal::Number(value as u32)
-}
-
 // The number in argument i, where that fits buf.
 fn argument(i: usize, buf: &mut [u8], most: u32) -> Decimal {
     let n = os::arg(i, buf);
     if os::errno() != 0 {
         return Decimal::Wrong;
     }
-    number_in(&buf[..n], most)
+    word::number_in(&buf[..n], most)
 }
 
 // How many of the sets that are left make the next piece.

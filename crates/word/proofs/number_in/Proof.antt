@@ -1,13 +1,13 @@
--- `tilegen::number_in` meets its contract: at each turn the judgement of what is left of the word is that of the whole; it stops at a byte that is
+-- `word::number_in` meets its contract: at each turn the judgement of what is left of the word is that of the whole; it stops at a byte that is
 -- no digit and where the value is above the greatest, after which no digit makes the word right again.
 use Prim.Native.Nat.{_-_}
 use native.Mathlib.Omega.{arith}
 use lib.ListN.{length}
 use borrow.Author.Needs.{needs}
 use Rattle.rules.proofs.ReadSteps.{below-digits, above-digits, a-digit}
-use Rattle.tilegen.proofs.Walk.{ReadTo, at-none, at-first, at-end, at-other, at-great, at-next}
-use Rattle.tilegen.proofs.number_in.Statement.{statement}
-use Rattle.tilegen.proofs.number_in.Tie as tie
+use Rattle.word.proofs.Walk.{ReadTo, at-none, at-first, at-end, at-other, at-great, at-next}
+use Rattle.word.proofs.number_in.Statement.{statement}
+use Rattle.word.proofs.number_in.Tie as tie
 
 abbrev Inv-loop : tie.InvT-loop
 Inv-loop word most limit value₀ i₀ value i = ReadTo word most value i

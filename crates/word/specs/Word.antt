@@ -1,12 +1,12 @@
--- A word that the program is called with, as a number.
+-- A word that a program is called with, as a number.
 use Prim.Native.Nat.{ℕ, _+_, _-_, _*_}
 use mathlib.Core.List.{List, [], _∷_}
 use mathlib.Core.Option.{Option, none, some}
 use lib.Dec.{leb}
 use Rattle.rules.specs.Choice.{if_then_else_}
 use Rattle.rules.specs.Text.{digit}
-use Rattle.tilegen.specs.declared.Decimal.{Decimal}
-use Rattle.tilegen.specs.declared.Decimal.the-variants.{Number, Wrong}
+use Rattle.word.specs.declared.Decimal.{Decimal}
+use Rattle.word.specs.declared.Decimal.the-variants.{Number, Wrong}
 
 -- the value of decimal digits after those that make v; none where another byte stands among them
 unfoldable pub valueFrom : ℕ → List ℕ → Option ℕ

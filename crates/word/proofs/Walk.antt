@@ -13,8 +13,8 @@ use borrow.Author.Tests.{le-leb, lt-leb}
 use Rattle.rules.specs.Choice.{if_then_else_}
 use Rattle.rules.specs.Text.{digit}
 use Rattle.rules.proofs.ReadSteps.{empty, first-of}
-use Rattle.tilegen.specs.Word.{valueFrom, judged, numberIn}
-use Rattle.tilegen.specs.declared.Decimal.the-variants.{Number, Wrong}
+use Rattle.word.specs.Word.{valueFrom, judged, numberIn}
+use Rattle.word.specs.declared.Decimal.the-variants.{Number, Wrong}
 
 -- a value above the greatest stays wrong, whatever follows
 great : (most v : ℕ) (s : List ℕ) → most < v → judged most (valueFrom v s) ≡ Wrong

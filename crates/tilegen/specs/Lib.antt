@@ -1,2 +1,0 @@
--- What the program takes for a number.
-pub mod Word

@@ -1,0 +1,2 @@
+-- What is taken for a number.
+pub mod Word

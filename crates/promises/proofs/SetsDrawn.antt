@@ -1,12 +1,13 @@
 -- Every set drawn is one that the verdict doesn't refuse, the long kernel holds the tile, and the texts are read in turn.
 use mathlib.Core.Path.{_≡_, refl, sym, ap, subst, _∙_}
-use Prim.Native.Nat.{ℕ, _-_, _*_, _≤_, _<_, _%_}
+use mathlib.Core.Logic.{_↔_}
+use Prim.Native.Nat.{ℕ, suc, _-_, _*_, _≤_, _<_, _%_}
 use native.Mathlib.Omega.{arith}
 use native.Mathlib.Decide.{decLt}
 use mathlib.Core.List.{List}
 use lib.ListN.{length, take, drop}
 use lib.Seq.{take-at}
-use Rattle.rules.specs.Task.{tasksOf}
+use Rattle.rules.specs.Task.{tasksOf, taskAt}
 use Rattle.rules.specs.Demand.{verdict}
 use Rattle.rules.specs.Answers.{verdictAnswer}
 use Rattle.rules.specs.Generator.{countDrawn, setDrawn, wordsDrawn, DrawsSet}
@@ -17,7 +18,7 @@ use Rattle.rules.specs.declared.VerdictAnswer.{VerdictAnswer}
 use Rattle.rules.proofs.Calls.{verdict-judged}
 use Rattle.rules.proofs.Drawn.{length-setDrawn, length-wordsDrawn, set-refused, set-given}
 use Rattle.rules.proofs.DrawnFine.{drawn-fine}
-use Rattle.rules.proofs.LongKernel.{set-length, long-there, D-above, long-due, long-waits, long-passes}
+use Rattle.rules.proofs.LongKernel.{set-length, long-there, D-above, long-due, long-waits, long-passes, long-where}
 use Rattle.rules.proofs.DrawnTexts.{texts-none, read-in-turn, in-pieces}
 use Rattle.promises.specs.Demands.{HoldsTheTile, SetsDrawn}
 
@@ -60,9 +61,14 @@ sets-drawn = record {
   not-refused = judged;
   drawn-is-judged = λ s number n after table exit c.
       subst (λ (w : List ℕ). (v : Verdict) × (verdictAnswer w ≡ VerdictAnswer.Judged v)) (sym (drawn-words s number n after table exit c)) (judged s number);
-  long-kernel = λ s number m n.
+  long-where = λ s number k n.
       let e : length (setDrawn number s) ≡ countDrawn s = length-setDrawn number s in
-      subst (λ (k : ℕ). HoldsTheTile (setDrawn number s) (k - 1)) (sym e) (holds s number m (omega arith));
+      subst (λ (j : ℕ). (taskAt (setDrawn number s) k .D ≡ 65535) ↔ ((number % 4 ≡ 0) × (2 ≤ j))) (sym e) (long-where s number k (sym e ∙ n));
+  long-kernel = λ s number k n d.
+      let c : countDrawn s ≡ suc k = sym (length-setDrawn number s) ∙ n in
+      let there = long-where s number k c .0 d in
+      let e : countDrawn s - 1 ≡ k = omega arith in
+      subst (HoldsTheTile (setDrawn number s)) e (holds s number (there .0) (there .1));
   no-text = texts-none;
   read-in-turn = read-in-turn;
   in-pieces = in-pieces;

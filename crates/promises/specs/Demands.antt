@@ -190,7 +190,7 @@ pub record CallForC : Type 0 where
   pub says : (text : List ℕ) → CallSays text (checkNumber text)
   pub safe : (text : List ℕ) → checkNumber text ≡ 100 → WasRead text (λ ts. (js : List Job) → Legal ts js → InTime js)
 
--- THE GENERATOR. Where the long kernel is put, task k of the set and its last: its C is at most every other D and equal to one of them, and its D is
+-- THE GENERATOR. What the long kernel does, task k of the set and its last: its C is at most every other D and equal to one of them, and its D is
 -- above all of theirs. So at the length L of its C a tick is due, and all but one may be waited for: L fails, except exactly where just one tick is due
 -- and no other kernel holds the tile for longer
 pub record HoldsTheTile (ts : List Task) (k : ℕ) : Type 0 where
@@ -202,13 +202,16 @@ pub record HoldsTheTile (ts : List Task) (k : ℕ) : Type 0 where
   pub waits : taskAt ts k .C - 1 ≤ Wait (taskAt ts k .C) ts
   pub passes : (fails (taskAt ts k .C) ts ≡ false) ↔ ((Due (taskAt ts k .C) ts ≡ 1) × (Wait (taskAt ts k .C) ts ≡ taskAt ts k .C - 1))
 
--- every set drawn is one that the verdict doesn't refuse, by the definitions and of whatever meets the call's contract; at each number that is a
--- multiple of 4, in a set of two tasks or more, the long kernel is there; and the texts of sets are what the check reads, set after set
+-- every set drawn is one that the verdict doesn't refuse, by the definitions and of whatever meets the call's contract; the last task has a D of
+-- 65,535 exactly where the number is a multiple of 4 and the set has two tasks or more, and then it holds the tile; and the texts of sets are what the
+-- check reads, set after set
 pub record SetsDrawn : Type 0 where
   pub not-refused : (s number : ℕ) → (v : Verdict) × (verdictAnswer (wordsDrawn number s) ≡ VerdictAnswer.Judged v)
   pub drawn-is-judged : (s number n after : ℕ) (table exit : List ℕ) → DrawsSet s number table (ReadAnswer.Set n) after exit
       → (v : Verdict) × (verdictAnswer (take (4 * n) exit) ≡ VerdictAnswer.Judged v)
-  pub long-kernel : (s number : ℕ) → number % 4 ≡ 0 → 2 ≤ length (setDrawn number s) → HoldsTheTile (setDrawn number s) (length (setDrawn number s) - 1)
+  pub long-where : (s number k : ℕ) → length (setDrawn number s) ≡ suc k
+      → (taskAt (setDrawn number s) k .D ≡ 65535) ↔ ((number % 4 ≡ 0) × (2 ≤ length (setDrawn number s)))
+  pub long-kernel : (s number k : ℕ) → length (setDrawn number s) ≡ suc k → taskAt (setDrawn number s) k .D ≡ 65535 → HoldsTheTile (setDrawn number s) k
   pub no-text : (k s : ℕ) → generated 0 k s ≡ []
   pub read-in-turn : (n k s : ℕ) → readSet (generated (suc n) k s) ≡ took (wordsDrawn k s) (generated n (suc k) (stateAfterSet s))
   pub in-pieces : (m n k s : ℕ) → generated (m + n) k s ≡ generated m k s ++ generated n (k + m) (stateAfterSets m s)

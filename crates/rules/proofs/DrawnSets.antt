@@ -241,7 +241,7 @@ long-only ts us vs k n A B =
 
 -- THE SET, and the state after it
 -- one task is left as it is
-one-stays : (ts : List Task) → length ts ≡ 1 → withLong ts ≡ ts
+pub one-stays : (ts : List Task) → length ts ≡ 1 → withLong ts ≡ ts
 unfolding withLong
 one-stays [] n = absurd (omega arith)
 one-stays (τ ∷ []) n = refl
@@ -256,7 +256,7 @@ module _ (s number : ℕ) where
   after-is = ap (λ (n : ℕ). stateAfter (1 + 4 * n) s) count-is
 
   -- where the number is no multiple of 4, and where it is one
-  plain-is : (number % 4 ≡ 0 → ⊥) → setDrawn number s ≡ tasksOfSet s
+  pub plain-is : (number % 4 ≡ 0 → ⊥) → setDrawn number s ≡ tasksOfSet s
   unfolding setDrawn
   plain-is h = rw (ne-eqb (number % 4) 0 h)
 

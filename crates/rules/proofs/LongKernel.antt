@@ -17,7 +17,7 @@ use Rattle.rules.proofs.Blockers.{wait-most}
 use Rattle.rules.proofs.Verdicts.{due-in, fails-when}
 use Rattle.rules.proofs.Drawn.{length-tasksDrawn, length-setDrawn}
 use Rattle.rules.proofs.DrawnFine.{Short, task-short}
-use Rattle.rules.proofs.DrawnSets.{task-of, tasksOfSet, long-put, long-is}
+use Rattle.rules.proofs.DrawnSets.{task-of, tasksOfSet, long-put, one-stays, plain-is, long-is}
 
 -- each task has its part in Due
 due-part : (L : ℕ) (ts : List Task) (i : ℕ) → i < length ts → due L (taskAt ts i) ≤ Due L ts
@@ -96,3 +96,25 @@ module _ (s number : ℕ) (multiple : number % 4 ≡ 0) (several : 2 ≤ countDr
 
   pub long-passes : (fails L set ≡ false) ↔ ((Due L set ≡ 1) × (Wait L set ≡ L - 1))
   long-passes = passes-when L set long-due long-waits L-low
+
+-- WHERE IT IS. A set that is as it was drawn has short tasks only
+all-short : (s number : ℕ) → setDrawn number s ≡ tasksOfSet s → (i : ℕ) → i < countDrawn s → Short (taskAt (setDrawn number s) i)
+all-short s number e i h =
+    subst Short (sym (ap (λ (ts : List Task). taskAt ts i) e ∙ task-of (countDrawn s) i (stateAfter 1 s) h)) (task-short (stateAfter (4 * i) (stateAfter 1 s)))
+
+-- the last task is the long one exactly where the number is a multiple of 4 and the set has two tasks or more
+pub long-where : (s number k : ℕ) → countDrawn s ≡ suc k → (taskAt (setDrawn number s) k .D ≡ 65535) ↔ ((number % 4 ≡ 0) × (2 ≤ countDrawn s))
+long-where s number k n = (λ d. split (number % 4) 0 (λ m. (omega arith, several d (omega arith))) (λ m. absurd (short d (plain-is s number (λ e. omega arith)))), back)
+  where
+    short : taskAt (setDrawn number s) k .D ≡ 65535 → setDrawn number s ≡ tasksOfSet s → ⊥
+    short d e = omega (arith, d, all-short s number e k (omega arith) .D-high)
+
+    several : taskAt (setDrawn number s) k .D ≡ 65535 → number % 4 ≡ 0 → 2 ≤ countDrawn s
+    several d m =
+        split 2 (countDrawn s) (λ h. h)
+        (λ h. absurd (short d (long-is s number m ∙ one-stays (tasksOfSet s) (omega (arith, length-tasksDrawn (countDrawn s) (stateAfter 1 s))))))
+
+    back : (number % 4 ≡ 0) × (2 ≤ countDrawn s) → taskAt (setDrawn number s) k .D ≡ 65535
+    back p =
+        let e : countDrawn s - 1 ≡ k = omega arith in
+        subst (λ (i : ℕ). taskAt (setDrawn number s) i .D ≡ 65535) e (long-there s number (p .0) (p .1) .D-is)

@@ -1,13 +1,12 @@
 -- What a draw and a set's draw give is exactly what the paper has.
 use mathlib.Core.Path.{_≡_, refl, sym, ap, ap₂, subst, _∙_}
 use mathlib.Core.Logic.{_↔_}
-use Prim.Native.Nat.{ℕ, _+_, _*_, _/_, _%_, _≤_, _<_}
+use Prim.Native.Nat.{ℕ, _+_, _*_, _/_, _%_, _<_}
 use native.Mathlib.Omega.{arith}
 use native.Mathlib.Decide.{decLt}
 use mathlib.Core.List.{List, _++_}
 use lib.ListN.{length, drop}
 use Rattle.rules.specs.declared.Task.{Task}
-use Rattle.rules.specs.Task.{tasksOf}
 use Rattle.rules.specs.Told.{Told, readTold}
 use Rattle.rules.specs.Generator.{countDrawn, setDrawn, wordsOf, wordsDrawn, stateAfterSet, Draws, drawAnswer, drawState, drawTable, DrawsSet}
 use Rattle.rules.specs.declared.ReadAnswer.{ReadAnswer}

@@ -1,5 +1,5 @@
 -- Every set drawn is one that the verdict doesn't refuse, the long kernel holds the tile, and the texts are read in turn.
-use mathlib.Core.Path.{_≡_, refl, sym, ap, subst, _∙_}
+use mathlib.Core.Path.{_≡_, sym, ap, subst, _∙_}
 use mathlib.Core.Logic.{_↔_}
 use Prim.Native.Nat.{ℕ, suc, _-_, _*_, _≤_, _<_, _%_}
 use native.Mathlib.Omega.{arith}

@@ -9,7 +9,7 @@ use mathlib.Core.Bool.{Bool, true, false}
 use lib.ListN.{length}
 use Rattle.rules.specs.Task.{taskAt}
 use Rattle.rules.specs.Demand.{due, Due, Wait, fails}
-use Rattle.rules.specs.Generator.{stateAfter, countDrawn, taskDrawn, tasksDrawn, withLong, setDrawn}
+use Rattle.rules.specs.Generator.{stateAfter, countDrawn, setDrawn}
 use Rattle.rules.specs.DrawnSets.{LongAt}
 use Rattle.rules.specs.declared.Task.{Task}
 use Rattle.rules.proofs.Booleans.{split, true-is-not-false}

@@ -1,7 +1,5 @@
 // Executes document 01's sets: they stand in the file stdin, and what must be printed of each in the file stdout. Then come sets drawn from a fixed
 // seed, and what is printed of them.
-ghost use Prim.Native.Nat.{_≤_};
-ghost use lib.ListN.{length};
 use libc::STDIN_FILENO;
 use libc::STDOUT_FILENO;
 use output::INPUT_MOST;

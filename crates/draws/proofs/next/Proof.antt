@@ -1,5 +1,4 @@
 -- `draws::next`: the product and the sum are each taken modulo 4,294,967,296, as the rules say.
-use mathlib.Core.Path.{sym, _∙_}
 use borrow.Author.Needs.{needs}
 use Rattle.rules.proofs.Drawn.{next-is}
 use Rattle.draws.proofs.next.Statement.{statement}

@@ -49,6 +49,10 @@ passes-when L ts d w l = (forth, λ e. go (fails L ts) refl e)
     go false f e = f
     go true f e = let h = fails-when ts L .0 f in absurd (omega (arith, h .1, e .0, e .1))
 
+-- the tasks of a set are short as they are drawn
+drawn-short : (s i : ℕ) → i < countDrawn s → Short (taskAt (tasksOfSet s) i)
+drawn-short s i h = subst Short (sym (task-of (countDrawn s) i (stateAfter 1 s) h)) (task-short (stateAfter (4 * i) (stateAfter 1 s)))
+
 -- THE SET WITH THE LONG KERNEL
 module _ (s number : ℕ) (multiple : number % 4 ≡ 0) (several : 2 ≤ countDrawn s) where
   abbrev k : ℕ
@@ -66,8 +70,7 @@ module _ (s number : ℕ) (multiple : number % 4 ≡ 0) (several : 2 ≤ countDr
       (long-put (tasksOfSet s) k (omega (arith, length-tasksDrawn (countDrawn s) (stateAfter 1 s))) (omega arith))
 
   pub others-short : (i : ℕ) → i < k → Short (taskAt set i)
-  others-short i h =
-      subst Short (sym (long-there .others i h ∙ task-of (countDrawn s) i (stateAfter 1 s) (omega arith))) (task-short (stateAfter (4 * i) (stateAfter 1 s)))
+  others-short i h = subst Short (sym (long-there .others i h)) (drawn-short s i (omega arith))
 
   -- its D is above all of theirs
   pub D-above : (i : ℕ) → i < k → taskAt set i .D < taskAt set k .D
@@ -99,8 +102,7 @@ module _ (s number : ℕ) (multiple : number % 4 ≡ 0) (several : 2 ≤ countDr
 
 -- WHERE IT IS. A set that is as it was drawn has short tasks only
 all-short : (s number : ℕ) → setDrawn number s ≡ tasksOfSet s → (i : ℕ) → i < countDrawn s → Short (taskAt (setDrawn number s) i)
-all-short s number e i h =
-    subst Short (sym (ap (λ (ts : List Task). taskAt ts i) e ∙ task-of (countDrawn s) i (stateAfter 1 s) h)) (task-short (stateAfter (4 * i) (stateAfter 1 s)))
+all-short s number e i h = subst Short (sym (ap (λ (ts : List Task). taskAt ts i) e)) (drawn-short s i h)
 
 -- the last task is the long one exactly where the number is a multiple of 4 and the set has two tasks or more
 pub long-where : (s number k : ℕ) → countDrawn s ≡ suc k → (taskAt (setDrawn number s) k .D ≡ 65535) ↔ ((number % 4 ≡ 0) × (2 ≤ countDrawn s))

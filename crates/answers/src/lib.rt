@@ -61,6 +61,7 @@ fn put_carried(out: &mut [u8], at: usize, carried: Carried) -> usize
     match carried {
         Carried::Word(i) => print::put_line(out, at, b"word=", i),
         Carried::Line(l) => print::put_line(out, at, b"line=", l),
+        Carried::Record(l) => print::put_line(out, at, b"record=", l),
         Carried::Nothing => at,
     }
 }

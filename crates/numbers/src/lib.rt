@@ -19,6 +19,9 @@ pub fn refusal_number(r: Refusal) -> u32
         Refusal::TooShort => 6,
         Refusal::BadLine(_) => 7,
         Refusal::NotMisses => 8,
+        Refusal::NoHeader => 13,
+        Refusal::BadRecord(_) => 14,
+        Refusal::NoRecord => 15,
     }
 }
 
@@ -29,6 +32,7 @@ pub fn refusal_carries(r: Refusal) -> Carried
     match r {
         Refusal::OutOfRange(i) => Carried::Word(i),
         Refusal::BadLine(l) => Carried::Line(l),
+        Refusal::BadRecord(l) => Carried::Record(l),
         _ => Carried::Nothing,
     }
 }

@@ -27,6 +27,7 @@ fn carried_value(c: Carried) -> u32
         Carried::Nothing => 0,
         Carried::Word(i) => i,
         Carried::Line(l) => l,
+        Carried::Record(l) => l,
     }
 }
 

@@ -55,10 +55,11 @@ verdict-most (Verdict.Misses L b) =
     (omega (arith, line-length (bytes "verdict=") (bytes "misses"), number-line (bytes "length=") L, blocker-most b))
 verdict-most Verdict.TooFar = omega (arith, line-length (bytes "verdict=") (bytes "toofar"))
 
-carried-most : (c : Carried) → length (carriedLine c) ≤ 16
+carried-most : (c : Carried) → length (carriedLine c) ≤ 18
 carried-most Carried.Nothing = omega arith
-carried-most (Carried.Word i) = number-line (bytes "word=") i
-carried-most (Carried.Line l) = number-line (bytes "line=") l
+carried-most (Carried.Word i) = omega (arith, number-line (bytes "word=") i)
+carried-most (Carried.Line l) = omega (arith, number-line (bytes "line=") l)
+carried-most (Carried.Record l) = number-line (bytes "record=") l
 
 -- an answer's lines
 pub answer-most : (a : VerdictAnswer) → length (answerLines a) ≤ 52

@@ -1,4 +1,4 @@
--- Of each call the answer, and every lent buffer at exit, as functions of the inputs; refusals in document 01's order.
+-- Of each call the answer, and every lent buffer at exit, as functions of the inputs; refusals in the documents' order.
 use Prim.Native.Nat.{ℕ, _*_, _/_}
 use mathlib.Core.List.{List, [], _∷_}
 use mathlib.Core.Bool.{Bool, true, false, not, _||_}
@@ -14,8 +14,9 @@ use Rattle.rules.specs.Jobs.{concrete, named}
 use Rattle.rules.specs.Demand.{verdict}
 use Rattle.rules.specs.Told.{numberTold, verdictTold}
 use Rattle.rules.specs.Text.{Lines, took, stop, readSet, wordsRead, restRead, writeSet}
+use Rattle.rules.specs.Sheet.{Sheet, tasks, wrong, noHeader, readSheet, sheetWords, writeSheet}
 use Rattle.rules.specs.declared.Refusal.{Refusal}
-use Rattle.rules.specs.declared.Refusal.the-variants.{BadEnd, TooShort, BadLine, NotMisses}
+use Rattle.rules.specs.declared.Refusal.the-variants.{BadEnd, TooShort, BadLine, NotMisses, NoHeader, BadRecord, NoRecord}
 use Rattle.rules.specs.declared.Verdict.{Verdict}
 use Rattle.rules.specs.declared.ReadAnswer.{ReadAnswer}
 use Rattle.rules.specs.declared.WriteAnswer.{WriteAnswer}
@@ -56,6 +57,40 @@ writeAnswer table out = answering (writeRefusal table out) WriteAnswer.Refused (
 -- and writes the text to the start of the lent buffer
 unfoldable pub writeBuffer : List ℕ → List ℕ → List ℕ
 writeBuffer table out = lent (writeRefusal table out) (writeSet table) out
+
+-- THE SHEET'S READER. Refusals 13, 14 with the number of the first record that is not as due, 15
+abbrev pub recordRefusal : Sheet → Option Refusal
+recordRefusal noHeader = some NoHeader
+recordRefusal (wrong l) = some (BadRecord l)
+recordRefusal (tasks []) = some NoRecord
+recordRefusal (tasks (w ∷ ws)) = none
+
+-- then 6
+unfoldable pub readSheetRefusal : List ℕ → List ℕ → Option Refusal
+readSheetRefusal sheet table =
+    firstOf (recordRefusal (readSheet sheet) ∷ (TooShort when ltb (length table) (length (sheetWords (readSheet sheet)))) ∷ [])
+
+-- it answers the task count
+unfoldable pub readSheetAnswer : List ℕ → List ℕ → ReadAnswer
+readSheetAnswer sheet table =
+    answering (readSheetRefusal sheet table) ReadAnswer.Refused (ReadAnswer.Set (length (sheetWords (readSheet sheet)) / 4))
+
+-- and writes the tasks' words to the start of the lent table
+unfoldable pub readSheetTable : List ℕ → List ℕ → List ℕ
+readSheetTable sheet table = lent (readSheetRefusal sheet table) (sheetWords (readSheet sheet)) table
+
+-- THE SHEET'S WRITER. Refusals 1, 2, 3, 4, 6
+unfoldable pub writeSheetRefusal : List ℕ → List ℕ → Option Refusal
+writeSheetRefusal table out = firstOf (tableRefusal table ∷ (TooShort when ltb (length out) (length (writeSheet table))) ∷ [])
+
+-- it answers the length of the sheet
+unfoldable pub writeSheetAnswer : List ℕ → List ℕ → WriteAnswer
+writeSheetAnswer table out =
+    answering (writeSheetRefusal table out) WriteAnswer.Refused (WriteAnswer.Written (length (writeSheet table)))
+
+-- and writes the sheet to the start of the lent buffer
+unfoldable pub writeSheetBuffer : List ℕ → List ℕ → List ℕ
+writeSheetBuffer table out = lent (writeSheetRefusal table out) (writeSheet table) out
 
 -- THE DISPATCHER, of any jobs. Refusal 6
 unfoldable pub dispatchRefusal : List Job → List ℕ → Option Refusal

@@ -3,7 +3,7 @@ use mathlib.Core.Path.{_≡_}
 use Prim.Native.Nat.{ℕ}
 use mathlib.Core.List.{List}
 use Rattle.rules.specs.Dispatch.{Job}
-use Rattle.rules.specs.Answers.{readAnswer, readTable, readRest, writeAnswer, writeBuffer, dispatchAnswer, dispatchBuffer, scheduleAnswer, scheduleBuffer, patternAnswer, patternBuffer}
+use Rattle.rules.specs.Answers.{readAnswer, readTable, readRest, writeAnswer, writeBuffer, readSheetAnswer, readSheetTable, writeSheetAnswer, writeSheetBuffer, dispatchAnswer, dispatchBuffer, scheduleAnswer, scheduleBuffer, patternAnswer, patternBuffer}
 use Rattle.rules.specs.Report.{reportAnswer, reportBuffer}
 use Rattle.rules.specs.declared.ReadAnswer.{ReadAnswer}
 use Rattle.rules.specs.declared.WriteAnswer.{WriteAnswer}
@@ -21,6 +21,16 @@ pub record Reads (text table : List ℕ) (answer : ReadAnswer) (rest exit : List
 pub record Writes (table out : List ℕ) (answer : WriteAnswer) (exit : List ℕ) : Type 0 where
   pub says : answer ≡ writeAnswer table out
   pub leaves : exit ≡ writeBuffer table out
+
+-- the sheet's reader: its answer and the lent table
+pub record ReadsSheet (sheet table : List ℕ) (answer : ReadAnswer) (exit : List ℕ) : Type 0 where
+  pub says : answer ≡ readSheetAnswer sheet table
+  pub leaves : exit ≡ readSheetTable sheet table
+
+-- the sheet's writer: its answer and the lent bytes
+pub record WritesSheet (table out : List ℕ) (answer : WriteAnswer) (exit : List ℕ) : Type 0 where
+  pub says : answer ≡ writeSheetAnswer table out
+  pub leaves : exit ≡ writeSheetBuffer table out
 
 -- the dispatcher, of any jobs: its answer and the lent rows
 pub record Dispatches (js : List Job) (out : List ℕ) (answer : ScheduleAnswer) (exit : List ℕ) : Type 0 where

@@ -3,6 +3,7 @@ pub mod Choice
 pub mod Numbers
 pub mod Task
 pub mod Text
+pub mod Sheet
 pub mod Refusals
 pub mod Told
 pub mod Table

@@ -1,10 +1,20 @@
-// What the calls take and answer, and the keys of a text's lines. Document 01 as definitions over these types stands in specs/.
+// What the calls take and answer, the keys of a text's lines, and the names of a sheet's columns. The documents as definitions over these types
+// stand in specs/.
 
 // The key of the first line.
 pub const TASKS_KEY: [u8; 6] = *b"tasks=";
 
 // The keys of a task's four lines, one after another, two bytes each.
 pub const TASK_KEYS: [u8; 8] = *b"c=d=t=r=";
+
+// The names of a sheet's four columns, in the order of a task's words.
+pub const EXECUTION: [u8; 9] = *b"execution";
+
+pub const DEADLINE: [u8; 8] = *b"deadline";
+
+pub const PERIOD: [u8; 6] = *b"period";
+
+pub const RELEASE: [u8; 7] = *b"release";
 
 // A task: execution, relative deadline, least period, first release.
 pub struct Task {
@@ -37,13 +47,17 @@ pub enum Refusal {
     TooShort,
     BadLine(u32),
     NotMisses,
+    NoHeader,
+    BadRecord(u32),
+    NoRecord,
 }
 
-// What a refusal carries: nothing, the index of a word, or the number of a line.
+// What a refusal carries: nothing, the index of a word, or the number of a line or of a record.
 pub enum Carried {
     Nothing,
     Word(u32),
     Line(u32),
+    Record(u32),
 }
 
 // The task that holds the tile before a length that fails.

@@ -33,6 +33,7 @@ fn say_refusal(r: Refusal) -> Saying
         Carried::Nothing => Saying::Bare(number),
         Carried::Word(i) => Saying::One(number, i as u64),
         Carried::Line(l) => Saying::One(number, l as u64),
+        Carried::Record(l) => Saying::One(number, l as u64),
     }
 }
 

@@ -12,7 +12,7 @@ pub enum Number {
 }
 
 // Whether s begins with a key; the bytes after it go to rest.
-fn skip_key<'a>(s: &'a [u8], key: &[u8], rest: &mut &'a [u8]) -> bool
+pub fn skip_key<'a>(s: &'a [u8], key: &[u8], rest: &mut &'a [u8]) -> bool
     ensures { λ r. ⌜ Skips (now (key .entry)) (now (s .entry)) (now (now (rest .entry))) r (now (now (rest .exit))) ⌝ }
 {
     let mut t = s;
@@ -79,7 +79,7 @@ fn more_digits<'a>(s: &'a [u8], first: u32, rest: &mut &'a [u8]) -> u32
 }
 
 // The number at the start of s; the bytes after it go to rest.
-fn read_number<'a>(s: &'a [u8], rest: &mut &'a [u8]) -> Number
+pub fn read_number<'a>(s: &'a [u8], rest: &mut &'a [u8]) -> Number
     ensures { λ r. ⌜ Finds (readNumber (now (s .entry))) (now (now (rest .entry))) r (now (now (rest .exit))) ⌝ }
 {
     if s.len() == 0 {

@@ -42,7 +42,7 @@ pub fn put_bytes(out: &mut [u8], at: usize, bytes: &[u8]) -> usize
 }
 
 // A number's digits are put at a place, the last one first.
-fn put_number(out: &mut [u8], at: usize, n: u32) -> usize
+pub fn put_number(out: &mut [u8], at: usize, n: u32) -> usize
     requires { ⌜ at + length (digits n) ≤ length (now out) ⌝ }
     ensures { λ r. ⌜ Puts (now (out .entry)) at (digits n) r (now (out .exit)) ⌝ }
 {

@@ -1,9 +1,10 @@
--- Document 01 as definitions; what is proved of them stands in proofs/.
+-- The documents as definitions; what is proved of them stands in proofs/.
 pub mod Choice
 pub mod Numbers
 pub mod Task
 pub mod Text
 pub mod Sheet
+pub mod Sheets
 pub mod Refusals
 pub mod Told
 pub mod Table

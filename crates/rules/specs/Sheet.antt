@@ -83,6 +83,10 @@ followed noField = noStep
 followed (content c []) = lastOf c (afterEnd [])
 followed (content c (b ∷ s)) = if eqb b comma then more c s else lastOf c (afterEnd (b ∷ s))
 
+-- the next field of a record
+abbrev pub nextField : List ℕ → Step
+nextField s = followed (readField s)
+
 -- what stands at the start of some bytes: a record's fields by their contents, and the bytes after the record; or it is not as due
 pub data Record : Type 0 where
   fields : List (List ℕ) → List ℕ → Record
@@ -102,7 +106,7 @@ onward noStep next = noRecord
 -- a record of at most n fields
 unfoldable pub recordWithin : ℕ → List ℕ → Record
 recordWithin zero s = noRecord
-recordWithin (suc n) s = onward (followed (readField s)) (recordWithin n)
+recordWithin (suc n) s = onward (nextField s) (recordWithin n)
 
 -- a record: it has at most one field more than there are bytes
 unfoldable pub readRecord : List ℕ → Record

@@ -1,8 +1,7 @@
 // The first set of a text, line by line, into a table.
 ghost use mathlib.Core.Path.{_≡_};
 ghost use Prim.Native.Nat.{_≤_, _<_};
-ghost use mathlib.Core.List.{_++_};
-ghost use lib.ListN.{length, take, drop};
+ghost use lib.ListN.{length, take};
 ghost use Rattle.rules.specs.Numbers.{tableMost};
 ghost use Rattle.rules.specs.Text.{keyOf, readLine, readLines};
 ghost use Rattle.rules.specs.Calls.{Reads};
@@ -51,18 +50,6 @@ fn task_lines<'a>(s: &'a [u8], m: usize, words: &mut [u32], rest: &mut &'a [u8])
     Scan::Whole
 }
 
-// The first n words of from go to the start of to.
-fn copy_words(from: &[u32], n: usize, to: &mut [u32])
-    requires { ⌜ (n ≤ length (now from)) × (n ≤ length (now to)) ⌝ }
-    ensures { λ _. ⌜ now (to .exit) ≡ take n (now (from .entry)) ++ drop n (now (to .entry)) ⌝ }
-{
-    let mut i = 0;
-    while i < n {
-        to[i] = from[i];
-        i += 1;
-    }
-}
-
 // The first set of a text: its words go to the start of table, the bytes after it to rest.
 pub fn read_set<'a>(text: &'a [u8], table: &mut [u32], rest: &mut &'a [u8]) -> ReadAnswer
     ensures { λ r. ⌜ Reads (now (text .entry)) (now (table .entry)) r (now (now (rest .exit))) (now (table .exit)) ⌝ }
@@ -89,7 +76,7 @@ pub fn read_set<'a>(text: &'a [u8], table: &mut [u32], rest: &mut &'a [u8]) -> R
     if table.len() < m {
         return ReadAnswer::Refused(Refusal::TooShort);
     }
-    copy_words(&words, m, table);
+    table::copy_words(&words, m, table);
     *rest = b;
     ReadAnswer::Set(n)
 }

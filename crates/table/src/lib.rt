@@ -1,7 +1,8 @@
-// A table and its tasks: whether it is one, refusals 1 to 4; and the one reader of a task.
+// A table and its tasks: whether it is one, refusals 1 to 4; the one reader of a task; and words that go to its start.
 ghost use mathlib.Core.Path.{_≡_};
 ghost use Prim.Native.Nat.{_+_, _*_, _≤_, _<_};
-ghost use lib.ListN.{length};
+ghost use mathlib.Core.List.{_++_};
+ghost use lib.ListN.{length, take, drop};
 ghost use Rattle.rules.specs.Numbers.{tableMost};
 ghost use Rattle.rules.specs.Refusals.{answering};
 ghost use Rattle.rules.specs.Table.{wordLeast, inRange, outOfRange, tableAnswer, taskIn};
@@ -84,4 +85,16 @@ pub fn check_table(table: &[u32]) -> TableAnswer
         return TableAnswer::Refused(Refusal::TooManyWords);
     }
     check_words(table)
+}
+
+// The first n words of from go to the start of to.
+pub fn copy_words(from: &[u32], n: usize, to: &mut [u32])
+    requires { ⌜ (n ≤ length (now from)) × (n ≤ length (now to)) ⌝ }
+    ensures { λ _. ⌜ now (to .exit) ≡ take n (now (from .entry)) ++ drop n (now (to .entry)) ⌝ }
+{
+    let mut i = 0;
+    while i < n {
+        to[i] = from[i];
+        i += 1;
+    }
 }

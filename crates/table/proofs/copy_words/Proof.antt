@@ -1,4 +1,4 @@
--- `scan::copy_words` meets its contract: after i turns the first i words of `from` stand before what `to` held from there on; each turn copies
+-- `table::copy_words` meets its contract: after i turns the first i words of `from` stand before what `to` held from there on; each turn copies
 -- one more.
 use mathlib.Core.Path.{_≡_, refl, ap, _∙_}
 use Prim.Native.Nat.{ℕ, _-_, _≤_}
@@ -7,8 +7,8 @@ use mathlib.Core.List.{_++_}
 use lib.ListN.{length, take, drop, length-set}
 use Rattle.rules.proofs.Slices.{copied}
 use borrow.Author.Needs.{needs}
-use Rattle.scan.proofs.copy_words.Statement.{statement}
-use Rattle.scan.proofs.copy_words.Tie as tie
+use Rattle.table.proofs.copy_words.Statement.{statement}
+use Rattle.table.proofs.copy_words.Tie as tie
 
 abbrev Inv-loop : tie.InvT-loop
 Inv-loop from n to₀ i₀ to i = (i ≤ n) × ((to ≡ take i from ++ drop i to₀) × (length to ≡ length to₀))

@@ -1,0 +1,2 @@
+-- What the calls on one field promise.
+pub mod Fields

@@ -1,0 +1,2 @@
+-- What the calls on a header promise.
+pub mod Headers

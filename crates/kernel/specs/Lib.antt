@@ -1,0 +1,2 @@
+-- What the calls on records promise.
+pub mod Kernels

@@ -7,7 +7,7 @@ use Rattle.rules.specs.Answers.{readAnswer, readTable, readRest, writeAnswer, w
 use Rattle.rules.specs.Report.{reportAnswer, reportBuffer}
 use Rattle.rules.specs.Generator.{nextState, drawn, drawAnswer, drawState, drawTable}
 use Rattle.rules.specs.declared.Refusal.{Refusal}
-use Rattle.rules.specs.declared.Refusal.the-variants.{NoWord, NotFours, TooManyWords, OutOfRange, BadEnd, TooShort, BadLine, NotMisses}
+use Rattle.rules.specs.declared.Refusal.the-variants.{NoWord, NotFours, TooManyWords, OutOfRange, BadEnd, TooShort, BadLine, NotMisses, NoHeader, BadRecord, NoRecord}
 use Rattle.rules.proofs.Untouched.{read-untouched, write-untouched, schedule-untouched, pattern-untouched, report-untouched, draw-untouched}
 use Rattle.promises.specs.Demands.{EndsWell, Untouched}
 
@@ -53,7 +53,7 @@ ends-well = record {
 }
 
 -- every refusal has a number
-numbered : (r : Refusal) → (1 ≤ numberOf r) × (numberOf r ≤ 8)
+numbered : (r : Refusal) → (1 ≤ numberOf r) × (numberOf r ≤ 15)
 numbered NoWord = (omega arith, omega arith)
 numbered NotFours = (omega arith, omega arith)
 numbered TooManyWords = (omega arith, omega arith)
@@ -62,6 +62,9 @@ numbered BadEnd = (omega arith, omega arith)
 numbered TooShort = (omega arith, omega arith)
 numbered (BadLine l) = (omega arith, omega arith)
 numbered NotMisses = (omega arith, omega arith)
+numbered NoHeader = (omega arith, omega arith)
+numbered (BadRecord l) = (omega arith, omega arith)
+numbered NoRecord = (omega arith, omega arith)
 
 pub untouched : Untouched
 untouched = record {

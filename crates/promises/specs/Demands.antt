@@ -52,9 +52,9 @@ pub record EndsWell : Type 0 where
   pub drawing : (s : ℕ) → One (ℕ × ℕ) (λ o. Draws s (o .0) (o .1))
   pub drawing-set : (s number : ℕ) (table : List ℕ) → One (ReadAnswer × ℕ × List ℕ) (λ o. DrawsSet s number table (o .0) (o .1) (o .2))
 
--- a refusal has a number from 1 to 8; each lent buffer and state at exit is what it was; the reader hands the whole text back
+-- a refusal has a number from 1 to 15; each lent buffer and state at exit is what it was; the reader hands the whole text back
 pub record Untouched : Type 0 where
-  pub numbered : (r : Refusal) → (1 ≤ numberOf r) × (numberOf r ≤ 8)
+  pub numbered : (r : Refusal) → (1 ≤ numberOf r) × (numberOf r ≤ 15)
   pub reading : (text table rest exit : List ℕ) (r : Refusal) → Reads text table (ReadAnswer.Refused r) rest exit → (rest ≡ text) × (exit ≡ table)
   pub writing : (table out exit : List ℕ) (r : Refusal) → Writes table out (WriteAnswer.Refused r) exit → exit ≡ out
   pub scheduling : (table out exit : List ℕ) (z : ℕ) (r : Refusal) → Schedules table z out (ScheduleAnswer.Refused r) exit → exit ≡ out

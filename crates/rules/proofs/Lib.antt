@@ -45,6 +45,7 @@ pub mod WriteSteps
 pub mod LineTrips
 pub mod SetTrips
 pub mod Reading
+pub mod TextLengths
 -- sheets
 pub mod Records
 pub mod SheetGrammar

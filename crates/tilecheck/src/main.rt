@@ -1,7 +1,7 @@
 // The program reads standard input and writes what `output` makes of it.
 use libc::STDERR_FILENO;
-use output::INPUT_MOST;
 use output::OUTPUT_MOST;
+use rules::INPUT_MOST;
 use stdio::Input;
 use stdio::read_input;
 use stdio::write_output;

@@ -49,11 +49,15 @@ wrong source BadEnd = []
 wrong source TooShort = []
 wrong source NotMisses = []
 
--- a refusal in one line
-abbrev pub sentence : Source → Refusal → List ℕ
-sentence source r = bytes "tilecheck: " ++ (wrong source r ++ phrase " (refusal " (numberOf r) ")\n")
+-- with the refusal's number
+abbrev pub numbered : Source → Refusal → List ℕ
+numbered source r = wrong source r ++ phrase " (refusal " (numberOf r) ")\n"
 
--- and an input that is too long
+-- the line for a refusal
+abbrev pub sentence : Source → Refusal → List ℕ
+sentence source r = bytes "tilecheck: " ++ numbered source r
+
+-- and for an input that is too long
 abbrev pub tooLong : List ℕ
 tooLong = bytes "tilecheck: the input has more than 32768 bytes\n"
 

@@ -75,7 +75,13 @@ fn put_out_of_range(out: &mut [u8], at: usize, source: Source, i: u32) -> usize
 {
     let after_place = put_place(out, at, source, i);
     let least = table::word_least(i as usize);
-    put_phrase(out, after_place, b" is out of its range, which is ", least, b" to 65535")
+    put_phrase(
+        out,
+        after_place,
+        b" is out of its range, which is ",
+        least,
+        b" to 65535",
+    )
 }
 
 // That a record is not as due is put at a place.
@@ -131,10 +137,6 @@ fn tell_long(out: &mut [u8]) -> Made
     requires { ⌜ madeMost ≤ length (now out) ⌝ }
     ensures { λ r. ⌜ Makes (told tooLong) (now (out .entry)) r (now (out .exit)) ⌝ }
 {
-    let all = print::put_bytes(
-        out,
-        0,
-        b"tilecheck: the input has more than 32768 bytes\n",
-    );
+    let all = print::put_bytes(out, 0, b"tilecheck: the input has more than 32768 bytes\n");
     Made::Told(all)
 }

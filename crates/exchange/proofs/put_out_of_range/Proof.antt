@@ -1,39 +1,48 @@
+-- `exchange::put_out_of_range` meets its contract: the place, and after it the range, whose least value is that of the table.
+use Rattle.rules.specs.Table.{wordLeast}
+use Rattle.print.proofs.Parts.{first-fits, second-fits, both}
+use Rattle.exchange.specs.Exchange.{phrase, place}
 use borrow.Author.Needs.{needs}
 use Rattle.exchange.proofs.put_out_of_range.Statement.{statement}
 use Rattle.exchange.proofs.put_out_of_range.Tie as tie
-use Rattle.exchange.proofs.put_out_of_range.Reads as reads
-use Rattle.exchange.proofs.put_out_of_range.Lts as lts
-use Rattle.exchange.proofs.put_phrase.Reads as put-phrase-reads
-use Rattle.exchange.proofs.put_place.Reads as put-place-reads
-use Rattle.table.proofs.word_least.Reads as word-least-reads
 
--- src/lib.rt:76:9
 put-place-requires : tie.Need-put-place-requires
-put-place-requires c κs = ?
+put-place-requires c κs =
+    let at-start = c .before .before in (
+      at-start .pre .0,
+      first-fits (at-start .args .out .now) (at-start .args .at) (place (at-start .args .source) (at-start .args .i)) _ (at-start .pre .1),
+    )
 
--- src/lib.rt:77:9
 word-least-requires : tie.Need-word-least-requires
 word-least-requires c κs = search needs
 
--- src/lib.rt:78:34
 slice-aggregate-put-phrase : tie.Need-slice-aggregate-put-phrase
 slice-aggregate-put-phrase c = search needs
 
--- src/lib.rt:78:77
 slice-aggregate-put-phrase-2 : tie.Need-slice-aggregate-put-phrase-2
 slice-aggregate-put-phrase-2 c = search needs
 
--- src/lib.rt:78:5
 put-phrase-requires : tie.Need-put-phrase-requires
-put-phrase-requires c κs = ?
+put-phrase-requires c κs =
+    let after-least = c .before .before .before in
+    let after-place = c .before .before .before .before .before .before in
+    let at-start = after-place .before .before .before in
+    let i = at-start .args .i in
+    rw (after-least .word-least .ensures)
+    (second-fits (at-start .args .out .now) (at-start .args .at) (place (at-start .args .source) i) (phrase " is out of its range, which is " (wordLeast i) " to 65535") (at-start .pre .1) (after-place .put-place .ensures) (after-place .put-place .kept .0))
 
--- src/lib.rt:72:1
 same-length : tie.Need-same-length
 same-length c = search needs
 
--- src/lib.rt:72:1
 returns : tie.Need-returns
-returns c = ?
+returns c =
+    let after-range = c .before .before in
+    let after-least = after-range .before .before .before .before in
+    let after-place = after-least .before .before .before in
+    let at-start = after-place .before .before .before in
+    let i = at-start .args .i in
+    both _ _ (place (at-start .args .source) i) (phrase " is out of its range, which is " (wordLeast i) " to 65535") (at-start .pre .1) (after-place .put-place .ensures)
+    (rw (after-least .word-least .ensures) at (after-range .put-phrase .ensures))
 
 pub put-out-of-range-spec : {M : Type 1} → statement M
 put-out-of-range-spec =

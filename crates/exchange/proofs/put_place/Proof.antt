@@ -33,8 +33,7 @@ put-column-requires c κs =
     let after-record = c .before .before .before in
     let in-sheet = after-record .before .before .before .before in
     let at-start = in-sheet .before .before .before in
-    let i = at-start .args .i in
-    (
+    let i = at-start .args .i in (
       omega arith,
       second-fits (at-start .args .out .now) (at-start .args .at) (phrase "record " (i / 4 + 2) ": ") (nameOf (i % 4)) (rw (in-sheet .enum-told .given .1) at (at-start .pre .1)) (after-record .put-phrase .ensures) (after-record .put-phrase .kept .0),
     )

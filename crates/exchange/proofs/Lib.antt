@@ -1,0 +1,2 @@
+-- Laws of the sentences, and what the exchange's promise tells.
+mod Sentences

@@ -14,6 +14,7 @@ use Rattle.rules.specs.Choice.{if_then_else_}
 use Rattle.rules.specs.Sheet.{Record, fields, noRecord, readRecord, nameOf, columnFrom, goodHeader, columnsOf, fieldNumber, also, numbersIn, Row, row, noRow, rowOf, readRow, Sheet, tasks, wrong, noHeader, wordsAhead, orWrong, atRecord, readTasks, underHeader, readSheet}
 use Rattle.rules.specs.Sheets.{Begins, Once, Header, Under, Kernel, kernel, Tasks, NotDue}
 use Rattle.rules.proofs.Booleans.{true-is-not-false}
+use Rattle.rules.proofs.SheetGrammar.{record-exact}
 use Rattle.rules.proofs.SheetNames.{column-is, header-exact, number-exact}
 
 -- NUMBERS
@@ -82,180 +83,179 @@ pub tasks-fours : {hs : List (List ℕ)} {s ws : List ℕ} → Tasks hs s ws →
 tasks-fours Tasks.none = refl
 tasks-fours (Tasks.more {ws = ws} {vs = vs} bytes-left k others) = omega (arith, length-append ws vs, kernel-words k, tasks-fours others)
 
-module _ (record-exact : (s : List ℕ) (cs : List (List ℕ)) (after : List ℕ) → (readRecord s ≡ fields cs after) ↔ Begins s cs after) where
-  module _ (hs : List (List ℕ)) (good : goodHeader hs ≡ true) where
-    -- A TASK'S RECORD
-    row-back : (s ws after : List ℕ) → readRow (length hs) (columnsOf hs) (readRecord s) ≡ row ws after → Kernel hs s ws after
-    unfolding columnsOf
-    row-back s ws after e =
-        let was = row-was (length hs) (columnsOf hs) (readRecord s) ws after e in
-        by-numbers (was .cs) (record-exact s (was .cs) after .0 (was .from)) (was .as-many) (was .numbers)
+module _ (hs : List (List ℕ)) (good : goodHeader hs ≡ true) where
+  -- A TASK'S RECORD
+  row-back : (s ws after : List ℕ) → readRow (length hs) (columnsOf hs) (readRecord s) ≡ row ws after → Kernel hs s ws after
+  unfolding columnsOf
+  row-back s ws after e =
+      let was = row-was (length hs) (columnsOf hs) (readRecord s) ws after e in
+      by-numbers (was .cs) (record-exact s (was .cs) after .0 (was .from)) (was .as-many) (was .numbers)
+    where
+      by-numbers : (cs : List (List ℕ)) {us : List ℕ} → Begins s cs after → length cs ≡ length hs → Numbers cs (columnsOf hs) us → Kernel hs s us after
+      by-numbers cs begins as-many (column {v = c} ec (column {v = d} ed (column {v = t} et (column {v = r} er no-column)))) =
+          let names = header-exact hs .0 good in
+          kernel
+          begins
+          as-many
+          (under-exact (nameOf 0) hs cs c (names .0) .0 ec)
+          (under-exact (nameOf 1) hs cs d (names .1) .0 ed)
+          (under-exact (nameOf 2) hs cs t (names .2) .0 et)
+          (under-exact (nameOf 3) hs cs r (names .3) .0 er)
+
+  row-there : {s ws after : List ℕ} → Kernel hs s ws after → readRow (length hs) (columnsOf hs) (readRecord s) ≡ row ws after
+  unfolding readRow rowOf numbersIn columnsOf also
+  row-there {s} (kernel {cs = cs} {after = after} {c = c} {d = d} {t = t} {r = r} begins as-many ec ed et er) =
+      let names = header-exact hs .0 good in
+      rw (
+        record-exact s cs after .1 begins,
+        eq-eqb (length cs) (length hs) as-many,
+        under-exact (nameOf 0) hs cs c (names .0) .1 ec,
+        under-exact (nameOf 1) hs cs d (names .1) .1 ed,
+        under-exact (nameOf 2) hs cs t (names .2) .1 et,
+        under-exact (nameOf 3) hs cs r (names .3) .1 er,
+      )
+
+  pub row-exact : (s ws after : List ℕ) → (readRow (length hs) (columnsOf hs) (readRecord s) ≡ row ws after) ↔ Kernel hs s ws after
+  row-exact s ws after = (row-back s ws after, row-there)
+
+  -- THE RECORDS OF TASKS
+  -- n records of tasks may come, the first is record l
+  abbrev read : ℕ → ℕ → List ℕ → Sheet
+  read n l s = readTasks (length hs) (columnsOf hs) n l s
+
+  -- what is read, in the paper's words
+  abbrev Gives : ℕ → ℕ → List ℕ → Sheet → Type 0
+  Gives n l s (tasks ws) = Tasks hs s ws × (length ws ≤ 4 * n)
+  Gives n l s (wrong k) = NotDue hs l s k
+  Gives n l s noHeader = ⊥
+
+  gives : (n l : ℕ) (s : List ℕ) → l + n ≡ 66 → Gives n l s (read n l s)
+  unfolding readTasks atRecord orWrong wordsAhead
+  gives zero l [] h = (Tasks.none, omega arith)
+  gives zero l (b ∷ s) h =
+      let last : l ≡ 66 = omega arith in
+      rw last (NotDue.too-many (some-byte b s))
+  gives (suc n) l [] h = (Tasks.none, omega arith)
+  gives (suc n) l (b ∷ s) h = by-row (readRow (length hs) (columnsOf hs) (readRecord (b ∷ s))) refl (λ after. gives n (suc l) after (omega arith))
+    where
+      by-later : {ws after : List ℕ} → Kernel hs (b ∷ s) ws after → (later : Sheet) → Gives n (suc l) after later → Gives (suc n) l (b ∷ s) (wordsAhead ws later)
+      by-later {ws} k (tasks vs) g = (Tasks.more (some-byte b s) k (g .0), omega (arith, length-append ws vs, kernel-words k, g .1))
+      by-later k (wrong m) g = NotDue.later {l = l} (omega arith) (some-byte b s) k g
+      by-later k noHeader g = g
+
+      by-row : (r : Row) → readRow (length hs) (columnsOf hs) (readRecord (b ∷ s)) ≡ r → ((after : List ℕ) → Gives n (suc l) after (read n (suc l) after))
+          → Gives (suc n) l (b ∷ s) (orWrong l r (λ rest. read n (suc l) rest))
+      by-row (row ws after) e later = by-later (row-back (b ∷ s) ws after e) (read n (suc l) after) (later after)
+      by-row noRow e later = NotDue.this (some-byte b s) (λ ws after k. let x = row-there k in let z : _≡_ {A = ℕ} 0 1 = cc in omega arith)
+
+  -- a record more, where there are bytes: it is as due, or it is not, or it may not come
+  module _ {s : List ℕ} (bytes-left : s ≡ [] → ⊥) where
+    record-due : (n l : ℕ) {ws after : List ℕ} → Kernel hs s ws after → read (suc n) l s ≡ wordsAhead ws (read n (suc l) after)
+    unfolding readTasks orWrong
+    record-due n l k = at-bytes s bytes-left _ ∙ rw (row-there k)
+
+    not-due : (n l : ℕ) → ((ws after : List ℕ) → Kernel hs s ws after → ⊥) → read (suc n) l s ≡ wrong l
+    unfolding readTasks orWrong
+    not-due n l none-is = at-bytes s bytes-left _ ∙ by-row (readRow (length hs) (columnsOf hs) (readRecord s)) refl
       where
-        by-numbers : (cs : List (List ℕ)) {us : List ℕ} → Begins s cs after → length cs ≡ length hs → Numbers cs (columnsOf hs) us → Kernel hs s us after
-        by-numbers cs begins as-many (column {v = c} ec (column {v = d} ed (column {v = t} et (column {v = r} er no-column)))) =
-            let names = header-exact hs .0 good in
-            kernel
-            begins
-            as-many
-            (under-exact (nameOf 0) hs cs c (names .0) .0 ec)
-            (under-exact (nameOf 1) hs cs d (names .1) .0 ed)
-            (under-exact (nameOf 2) hs cs t (names .2) .0 et)
-            (under-exact (nameOf 3) hs cs r (names .3) .0 er)
+        by-row : (r : Row) → readRow (length hs) (columnsOf hs) (readRecord s) ≡ r → orWrong l r (λ rest. read n (suc l) rest) ≡ wrong l
+        by-row (row ws after) e = absurd (none-is ws after (row-back s ws after e))
+        by-row noRow e = refl
 
-    row-there : {s ws after : List ℕ} → Kernel hs s ws after → readRow (length hs) (columnsOf hs) (readRecord s) ≡ row ws after
-    unfolding readRow rowOf numbersIn columnsOf also
-    row-there {s} (kernel {cs = cs} {after = after} {c = c} {d = d} {t = t} {r = r} begins as-many ec ed et er) =
-        let names = header-exact hs .0 good in
-        rw (
-          record-exact s cs after .1 begins,
-          eq-eqb (length cs) (length hs) as-many,
-          under-exact (nameOf 0) hs cs c (names .0) .1 ec,
-          under-exact (nameOf 1) hs cs d (names .1) .1 ed,
-          under-exact (nameOf 2) hs cs t (names .2) .1 et,
-          under-exact (nameOf 3) hs cs r (names .3) .1 er,
-        )
+    too-far : (l : ℕ) → read 0 l s ≡ wrong l
+    unfolding readTasks
+    too-far l = at-bytes s bytes-left _
 
-    pub row-exact : (s ws after : List ℕ) → (readRow (length hs) (columnsOf hs) (readRecord s) ≡ row ws after) ↔ Kernel hs s ws after
-    row-exact s ws after = (row-back s ws after, row-there)
+  tasks-there : (n l : ℕ) {s ws : List ℕ} → Tasks hs s ws → length ws ≤ 4 * n → read n l s ≡ tasks ws
+  unfolding readTasks atRecord wordsAhead
+  tasks-there zero l Tasks.none h = refl
+  tasks-there (suc n) l Tasks.none h = refl
+  tasks-there zero l (Tasks.more {ws = ws} {vs = vs} bytes-left k others) h = absurd (omega (arith, length-append ws vs, kernel-words k))
+  tasks-there (suc n) l (Tasks.more {ws = ws} {vs = vs} bytes-left k others) h =
+      record-due bytes-left n l k ∙ ap (wordsAhead ws) (tasks-there n (suc l) others (omega (arith, length-append ws vs, kernel-words k)))
 
-    -- THE RECORDS OF TASKS
-    -- n records of tasks may come, the first is record l
-    abbrev read : ℕ → ℕ → List ℕ → Sheet
-    read n l s = readTasks (length hs) (columnsOf hs) n l s
+  wrong-there : (n : ℕ) {l k : ℕ} {s : List ℕ} → NotDue hs l s k → l + n ≡ 66 → read n l s ≡ wrong k
+  unfolding wordsAhead
+  wrong-there zero (NotDue.this {l = l} bytes-left none-is) h = too-far bytes-left l
+  wrong-there (suc n) (NotDue.this {l = l} bytes-left none-is) h = not-due bytes-left n l none-is
+  wrong-there zero (NotDue.too-many bytes-left) h = too-far bytes-left 66
+  wrong-there (suc n) (NotDue.too-many bytes-left) h = absurd (omega arith)
+  wrong-there zero (NotDue.later below bytes-left k others) h = absurd (omega arith)
+  wrong-there (suc n) (NotDue.later {l = l} {ws = ws} below bytes-left k others) h =
+      record-due bytes-left n l k ∙ ap (wordsAhead ws) (wrong-there n others (omega arith))
 
-    -- what is read, in the paper's words
-    abbrev Gives : ℕ → ℕ → List ℕ → Sheet → Type 0
-    Gives n l s (tasks ws) = Tasks hs s ws × (length ws ≤ 4 * n)
-    Gives n l s (wrong k) = NotDue hs l s k
-    Gives n l s noHeader = ⊥
+  pub tasks-exact : (s ws : List ℕ) → (readTasks (length hs) (columnsOf hs) 64 2 s ≡ tasks ws) ↔ (Tasks hs s ws × (length ws ≤ 256))
+  tasks-exact s ws = (λ e. subst (Gives 64 2 s) e (gives 64 2 s refl), λ g. tasks-there 64 2 (g .0) (g .1))
 
-    gives : (n l : ℕ) (s : List ℕ) → l + n ≡ 66 → Gives n l s (read n l s)
-    unfolding readTasks atRecord orWrong wordsAhead
-    gives zero l [] h = (Tasks.none, omega arith)
-    gives zero l (b ∷ s) h =
-        let last : l ≡ 66 = omega arith in
-        rw last (NotDue.too-many (some-byte b s))
-    gives (suc n) l [] h = (Tasks.none, omega arith)
-    gives (suc n) l (b ∷ s) h = by-row (readRow (length hs) (columnsOf hs) (readRecord (b ∷ s))) refl (λ after. gives n (suc l) after (omega arith))
-      where
-        by-later : {ws after : List ℕ} → Kernel hs (b ∷ s) ws after → (later : Sheet) → Gives n (suc l) after later → Gives (suc n) l (b ∷ s) (wordsAhead ws later)
-        by-later {ws} k (tasks vs) g = (Tasks.more (some-byte b s) k (g .0), omega (arith, length-append ws vs, kernel-words k, g .1))
-        by-later k (wrong m) g = NotDue.later {l = l} (omega arith) (some-byte b s) k g
-        by-later k noHeader g = g
+  pub wrong-exact : (s : List ℕ) (l : ℕ) → (readTasks (length hs) (columnsOf hs) 64 2 s ≡ wrong l) ↔ NotDue hs 2 s l
+  wrong-exact s l = (λ e. subst (Gives 64 2 s) e (gives 64 2 s refl), λ g. wrong-there 64 g refl)
 
-        by-row : (r : Row) → readRow (length hs) (columnsOf hs) (readRecord (b ∷ s)) ≡ r → ((after : List ℕ) → Gives n (suc l) after (read n (suc l) after))
-            → Gives (suc n) l (b ∷ s) (orWrong l r (λ rest. read n (suc l) rest))
-        by-row (row ws after) e later = by-later (row-back (b ∷ s) ws after e) (read n (suc l) after) (later after)
-        by-row noRow e later = NotDue.this (some-byte b s) (λ ws after k. let x = row-there k in let z : _≡_ {A = ℕ} 0 1 = cc in omega arith)
+-- THE SHEET
+module _ (s : List ℕ) where
+  header-good : {hs : List (List ℕ)} {after : List ℕ} → Header s hs after → goodHeader hs ≡ true
+  header-good {hs} H = header-exact hs .1 (H .execution, H .deadline, H .period, H .release)
 
-    -- a record more, where there are bytes: it is as due, or it is not, or it may not come
-    module _ {s : List ℕ} (bytes-left : s ≡ [] → ⊥) where
-      record-due : (n l : ℕ) {ws after : List ℕ} → Kernel hs s ws after → read (suc n) l s ≡ wordsAhead ws (read n (suc l) after)
-      unfolding readTasks orWrong
-      record-due n l k = at-bytes s bytes-left _ ∙ rw (row-there k)
+  header-of : {hs : List (List ℕ)} {after : List ℕ} → readRecord s ≡ fields hs after → goodHeader hs ≡ true → Header s hs after
+  header-of {hs} {after} e good =
+      let names = header-exact hs .0 good in
+      record { begins = record-exact s hs after .0 e; execution = names .0; deadline = names .1; period = names .2; release = names .3 }
 
-      not-due : (n l : ℕ) → ((ws after : List ℕ) → Kernel hs s ws after → ⊥) → read (suc n) l s ≡ wrong l
-      unfolding readTasks orWrong
-      not-due n l none-is = at-bytes s bytes-left _ ∙ by-row (readRow (length hs) (columnsOf hs) (readRecord s)) refl
+  -- what a sheet gives under its header
+  under-header : {hs : List (List ℕ)} {after : List ℕ} → Header s hs after → readSheet s ≡ readTasks (length hs) (columnsOf hs) 64 2 after
+  unfolding readSheet underHeader
+  under-header {hs} {after} H = rw (record-exact s hs after .1 (H .begins), header-good H)
+
+  -- what is read, in the paper's words
+  abbrev Told : Sheet → Type 0
+  Told (tasks ws) = (hs : List (List ℕ)) × (after : List ℕ) × Header s hs after × Tasks hs after ws × (length ws ≤ 256)
+  Told (wrong l) = (hs : List (List ℕ)) × (after : List ℕ) × Header s hs after × NotDue hs 2 after l
+  Told noHeader = (hs : List (List ℕ)) (after : List ℕ) → Header s hs after → ⊥
+
+  told : Told (readSheet s)
+  unfolding readSheet underHeader
+  told = by-record (readRecord s) refl
+    where
+      by-names : (hs : List (List ℕ)) (after : List ℕ) → readRecord s ≡ fields hs after → (t : Bool) → goodHeader hs ≡ t
+          → Told (if t then readTasks (length hs) (columnsOf hs) 64 2 after else noHeader)
+      by-names hs after e true good = by-tasks (readTasks (length hs) (columnsOf hs) 64 2 after) (gives hs good 64 2 after refl)
         where
-          by-row : (r : Row) → readRow (length hs) (columnsOf hs) (readRecord s) ≡ r → orWrong l r (λ rest. read n (suc l) rest) ≡ wrong l
-          by-row (row ws after) e = absurd (none-is ws after (row-back s ws after e))
-          by-row noRow e = refl
+          by-tasks : (x : Sheet) → Gives hs good 64 2 after x → Told x
+          by-tasks (tasks ws) g = (hs, after, header-of e good, g .0, g .1)
+          by-tasks (wrong l) g = (hs, after, header-of e good, g)
+          by-tasks noHeader g = absurd g
+      by-names hs after e false bad = λ names rest H.
+          let read = record-exact s names rest .1 (H .begins) in
+          let same : hs ≡ names = cc in
+          true-is-not-false (sym (header-good H) ∙ ap goodHeader (sym same) ∙ bad)
 
-      too-far : (l : ℕ) → read 0 l s ≡ wrong l
-      unfolding readTasks
-      too-far l = at-bytes s bytes-left _
+      by-record : (r : Record) → readRecord s ≡ r → Told (underHeader r)
+      by-record (fields hs after) e = by-names hs after e (goodHeader hs) refl
+      by-record noRecord e = λ hs after H.
+          let read = record-exact s hs after .1 (H .begins) in
+          let z : _≡_ {A = ℕ} 0 1 = cc in
+          omega arith
 
-    tasks-there : (n l : ℕ) {s ws : List ℕ} → Tasks hs s ws → length ws ≤ 4 * n → read n l s ≡ tasks ws
-    unfolding readTasks atRecord wordsAhead
-    tasks-there zero l Tasks.none h = refl
-    tasks-there (suc n) l Tasks.none h = refl
-    tasks-there zero l (Tasks.more {ws = ws} {vs = vs} bytes-left k others) h = absurd (omega (arith, length-append ws vs, kernel-words k))
-    tasks-there (suc n) l (Tasks.more {ws = ws} {vs = vs} bytes-left k others) h =
-        record-due bytes-left n l k ∙ ap (wordsAhead ws) (tasks-there n (suc l) others (omega (arith, length-append ws vs, kernel-words k)))
+  pub sheet-none : (readSheet s ≡ noHeader) ↔ ((hs : List (List ℕ)) (after : List ℕ) → Header s hs after → ⊥)
+  sheet-none = (λ e. subst Told e told, λ none-is. by-sheet none-is (readSheet s) told)
+    where
+      by-sheet : ((hs : List (List ℕ)) (after : List ℕ) → Header s hs after → ⊥) → (x : Sheet) → Told x → x ≡ noHeader
+      by-sheet none-is (tasks ws) t = absurd (none-is (t .0) (t .1) (t .2))
+      by-sheet none-is (wrong l) t = absurd (none-is (t .0) (t .1) (t .2))
+      by-sheet none-is noHeader t = refl
 
-    wrong-there : (n : ℕ) {l k : ℕ} {s : List ℕ} → NotDue hs l s k → l + n ≡ 66 → read n l s ≡ wrong k
-    unfolding wordsAhead
-    wrong-there zero (NotDue.this {l = l} bytes-left none-is) h = too-far bytes-left l
-    wrong-there (suc n) (NotDue.this {l = l} bytes-left none-is) h = not-due bytes-left n l none-is
-    wrong-there zero (NotDue.too-many bytes-left) h = too-far bytes-left 66
-    wrong-there (suc n) (NotDue.too-many bytes-left) h = absurd (omega arith)
-    wrong-there zero (NotDue.later below bytes-left k others) h = absurd (omega arith)
-    wrong-there (suc n) (NotDue.later {l = l} {ws = ws} below bytes-left k others) h =
-        record-due bytes-left n l k ∙ ap (wordsAhead ws) (wrong-there n others (omega arith))
+  pub sheet-wrong : (l : ℕ) → (readSheet s ≡ wrong l) ↔ ((hs : List (List ℕ)) × (after : List ℕ) × Header s hs after × NotDue hs 2 after l)
+  sheet-wrong l = (
+    λ e. subst Told e told,
+    λ t. under-header (t .2) ∙ wrong-exact (t .0) (header-good (t .2)) (t .1) l .1 (t .3),
+  )
 
-    pub tasks-exact : (s ws : List ℕ) → (readTasks (length hs) (columnsOf hs) 64 2 s ≡ tasks ws) ↔ (Tasks hs s ws × (length ws ≤ 256))
-    tasks-exact s ws = (λ e. subst (Gives 64 2 s) e (gives 64 2 s refl), λ g. tasks-there 64 2 (g .0) (g .1))
+  pub sheet-tasks : (ws : List ℕ)
+      → (readSheet s ≡ tasks ws) ↔ ((hs : List (List ℕ)) × (after : List ℕ) × Header s hs after × Tasks hs after ws × (length ws ≤ 256))
+  sheet-tasks ws = (
+    λ e. subst Told e told,
+    λ t. under-header (t .2) ∙ tasks-exact (t .0) (header-good (t .2)) (t .1) ws .1 (t .3, t .4),
+  )
 
-    pub wrong-exact : (s : List ℕ) (l : ℕ) → (readTasks (length hs) (columnsOf hs) 64 2 s ≡ wrong l) ↔ NotDue hs 2 s l
-    wrong-exact s l = (λ e. subst (Gives 64 2 s) e (gives 64 2 s refl), λ g. wrong-there 64 g refl)
-
-  -- THE SHEET
-  module _ (s : List ℕ) where
-    header-good : {hs : List (List ℕ)} {after : List ℕ} → Header s hs after → goodHeader hs ≡ true
-    header-good {hs} H = header-exact hs .1 (H .execution, H .deadline, H .period, H .release)
-
-    header-of : {hs : List (List ℕ)} {after : List ℕ} → readRecord s ≡ fields hs after → goodHeader hs ≡ true → Header s hs after
-    header-of {hs} {after} e good =
-        let names = header-exact hs .0 good in
-        record { begins = record-exact s hs after .0 e; execution = names .0; deadline = names .1; period = names .2; release = names .3 }
-
-    -- what a sheet gives under its header
-    under-header : {hs : List (List ℕ)} {after : List ℕ} → Header s hs after → readSheet s ≡ readTasks (length hs) (columnsOf hs) 64 2 after
-    unfolding readSheet underHeader
-    under-header {hs} {after} H = rw (record-exact s hs after .1 (H .begins), header-good H)
-
-    -- what is read, in the paper's words
-    abbrev Told : Sheet → Type 0
-    Told (tasks ws) = (hs : List (List ℕ)) × (after : List ℕ) × Header s hs after × Tasks hs after ws × (length ws ≤ 256)
-    Told (wrong l) = (hs : List (List ℕ)) × (after : List ℕ) × Header s hs after × NotDue hs 2 after l
-    Told noHeader = (hs : List (List ℕ)) (after : List ℕ) → Header s hs after → ⊥
-
-    told : Told (readSheet s)
-    unfolding readSheet underHeader
-    told = by-record (readRecord s) refl
-      where
-        by-names : (hs : List (List ℕ)) (after : List ℕ) → readRecord s ≡ fields hs after → (t : Bool) → goodHeader hs ≡ t
-            → Told (if t then readTasks (length hs) (columnsOf hs) 64 2 after else noHeader)
-        by-names hs after e true good = by-tasks (readTasks (length hs) (columnsOf hs) 64 2 after) (gives hs good 64 2 after refl)
-          where
-            by-tasks : (x : Sheet) → Gives hs good 64 2 after x → Told x
-            by-tasks (tasks ws) g = (hs, after, header-of e good, g .0, g .1)
-            by-tasks (wrong l) g = (hs, after, header-of e good, g)
-            by-tasks noHeader g = absurd g
-        by-names hs after e false bad = λ names rest H.
-            let read = record-exact s names rest .1 (H .begins) in
-            let same : hs ≡ names = cc in
-            true-is-not-false (sym (header-good H) ∙ ap goodHeader (sym same) ∙ bad)
-
-        by-record : (r : Record) → readRecord s ≡ r → Told (underHeader r)
-        by-record (fields hs after) e = by-names hs after e (goodHeader hs) refl
-        by-record noRecord e = λ hs after H.
-            let read = record-exact s hs after .1 (H .begins) in
-            let z : _≡_ {A = ℕ} 0 1 = cc in
-            omega arith
-
-    pub sheet-none : (readSheet s ≡ noHeader) ↔ ((hs : List (List ℕ)) (after : List ℕ) → Header s hs after → ⊥)
-    sheet-none = (λ e. subst Told e told, λ none-is. by-sheet none-is (readSheet s) told)
-      where
-        by-sheet : ((hs : List (List ℕ)) (after : List ℕ) → Header s hs after → ⊥) → (x : Sheet) → Told x → x ≡ noHeader
-        by-sheet none-is (tasks ws) t = absurd (none-is (t .0) (t .1) (t .2))
-        by-sheet none-is (wrong l) t = absurd (none-is (t .0) (t .1) (t .2))
-        by-sheet none-is noHeader t = refl
-
-    pub sheet-wrong : (l : ℕ) → (readSheet s ≡ wrong l) ↔ ((hs : List (List ℕ)) × (after : List ℕ) × Header s hs after × NotDue hs 2 after l)
-    sheet-wrong l = (
-      λ e. subst Told e told,
-      λ t. under-header (t .2) ∙ wrong-exact (t .0) (header-good (t .2)) (t .1) l .1 (t .3),
-    )
-
-    pub sheet-tasks : (ws : List ℕ)
-        → (readSheet s ≡ tasks ws) ↔ ((hs : List (List ℕ)) × (after : List ℕ) × Header s hs after × Tasks hs after ws × (length ws ≤ 256))
-    sheet-tasks ws = (
-      λ e. subst Told e told,
-      λ t. under-header (t .2) ∙ tasks-exact (t .0) (header-good (t .2)) (t .1) ws .1 (t .3, t .4),
-    )
-
-    -- four words a task
-    pub sheet-fours : (ws : List ℕ) → readSheet s ≡ tasks ws → length ws ≡ 4 * (length ws / 4)
-    sheet-fours ws e = let t = sheet-tasks ws .0 e in omega (arith, tasks-fours (t .3))
+  -- four words a task
+  pub sheet-fours : (ws : List ℕ) → readSheet s ≡ tasks ws → length ws ≡ 4 * (length ws / 4)
+  sheet-fours ws e = let t = sheet-tasks ws .0 e in omega (arith, tasks-fours (t .3))

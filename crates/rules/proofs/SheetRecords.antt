@@ -1,10 +1,10 @@
--- What reading a sheet gives is what the paper's words say, and nothing else has those words: a task's record, the records of tasks, the first that is not
--- as due, the whole sheet. Where a record is read its words hold (by what was read, record after record); and where they hold that is what is read.
+-- What reading a sheet gives is what the paper's words say, both ways: a task's record, the records of tasks, the first that is not as due, the whole sheet.
+-- What was read has its words, record after record; and where the words hold that is what is read, since each step of theirs is one of the reading.
 use mathlib.Core.Path.{_≡_, refl, sym, ap, subst, _∙_}
 use Prim.Native.Nat.{ℕ, zero, suc, _+_, _-_, _*_, _/_, _%_, _≤_}
 use native.Mathlib.Omega.{arith}
 use mathlib.Core.Logic.{_↔_}
-use mathlib.Core.List.{List, [], _∷_, _++_}
+use mathlib.Core.List.{List, [], _∷_}
 use mathlib.Core.Bool.{Bool, true, false}
 use mathlib.Core.Option.{Option, none, some}
 use lib.Dec.{eqb}
@@ -67,6 +67,7 @@ row-was count columns (fields cs rest) ws after e = by-count (eqb (length cs) co
     by-count true t e = by-numbers (eqb-true (length cs) count t) (numbersIn columns cs) refl e
     by-count false t e = let z : _≡_ {A = ℕ} 0 1 = cc in absurd (omega arith)
 
+-- while bytes are left there is a record more
 some-byte : (b : ℕ) (s : List ℕ) → _≡_ {A = List ℕ} (b ∷ s) [] → ⊥
 some-byte b s e = let z : _≡_ {A = ℕ} 0 1 = cc in omega arith
 
@@ -81,114 +82,117 @@ kernel-words (kernel begins as-many c d t r) = refl
 
 pub tasks-fours : {hs : List (List ℕ)} {s ws : List ℕ} → Tasks hs s ws → length ws % 4 ≡ 0
 tasks-fours Tasks.none = refl
-tasks-fours (Tasks.more {ws = ws} {vs = vs} bytes-left k others) = omega (arith, length-append ws vs, kernel-words k, tasks-fours others)
+tasks-fours (Tasks.more {ws = ws} {vs = vs} bytes-left due others) = omega (arith, length-append ws vs, kernel-words due, tasks-fours others)
 
-module _ (hs : List (List ℕ)) (good : goodHeader hs ≡ true) where
-  -- A TASK'S RECORD
-  row-back : (s ws after : List ℕ) → readRow (length hs) (columnsOf hs) (readRecord s) ≡ row ws after → Kernel hs s ws after
-  unfolding columnsOf
-  row-back s ws after e =
-      let was = row-was (length hs) (columnsOf hs) (readRecord s) ws after e in
-      by-numbers (was .cs) (record-exact s (was .cs) after .0 (was .from)) (was .as-many) (was .numbers)
-    where
-      by-numbers : (cs : List (List ℕ)) {us : List ℕ} → Begins s cs after → length cs ≡ length hs → Numbers cs (columnsOf hs) us → Kernel hs s us after
-      by-numbers cs begins as-many (column {v = c} ec (column {v = d} ed (column {v = t} et (column {v = r} er no-column)))) =
-          let names = header-exact hs .0 good in
-          kernel
-          begins
-          as-many
-          (under-exact (nameOf 0) hs cs c (names .0) .0 ec)
-          (under-exact (nameOf 1) hs cs d (names .1) .0 ed)
-          (under-exact (nameOf 2) hs cs t (names .2) .0 et)
-          (under-exact (nameOf 3) hs cs r (names .3) .0 er)
-
-  row-there : {s ws after : List ℕ} → Kernel hs s ws after → readRow (length hs) (columnsOf hs) (readRecord s) ≡ row ws after
-  unfolding readRow rowOf numbersIn columnsOf also
-  row-there {s} (kernel {cs = cs} {after = after} {c = c} {d = d} {t = t} {r = r} begins as-many ec ed et er) =
-      let names = header-exact hs .0 good in
-      rw (
-        record-exact s cs after .1 begins,
-        eq-eqb (length cs) (length hs) as-many,
-        under-exact (nameOf 0) hs cs c (names .0) .1 ec,
-        under-exact (nameOf 1) hs cs d (names .1) .1 ed,
-        under-exact (nameOf 2) hs cs t (names .2) .1 et,
-        under-exact (nameOf 3) hs cs r (names .3) .1 er,
-      )
-
-  pub row-exact : (s ws after : List ℕ) → (readRow (length hs) (columnsOf hs) (readRecord s) ≡ row ws after) ↔ Kernel hs s ws after
-  row-exact s ws after = (row-back s ws after, row-there)
-
-  -- THE RECORDS OF TASKS
+module _ (hs : List (List ℕ)) where
   -- n records of tasks may come, the first is record l
   abbrev read : ℕ → ℕ → List ℕ → Sheet
   read n l s = readTasks (length hs) (columnsOf hs) n l s
 
-  -- what is read, in the paper's words
+  -- what that is, in the paper's words
   abbrev Gives : ℕ → ℕ → List ℕ → Sheet → Type 0
   Gives n l s (tasks ws) = Tasks hs s ws × (length ws ≤ 4 * n)
   Gives n l s (wrong k) = NotDue hs l s k
   Gives n l s noHeader = ⊥
 
-  gives : (n l : ℕ) (s : List ℕ) → l + n ≡ 66 → Gives n l s (read n l s)
-  unfolding readTasks atRecord orWrong wordsAhead
-  gives zero l [] h = (Tasks.none, omega arith)
-  gives zero l (b ∷ s) h =
-      let last : l ≡ 66 = omega arith in
-      rw last (NotDue.too-many (some-byte b s))
-  gives (suc n) l [] h = (Tasks.none, omega arith)
-  gives (suc n) l (b ∷ s) h = by-row (readRow (length hs) (columnsOf hs) (readRecord (b ∷ s))) refl (λ after. gives n (suc l) after (omega arith))
-    where
-      by-later : {ws after : List ℕ} → Kernel hs (b ∷ s) ws after → (later : Sheet) → Gives n (suc l) after later → Gives (suc n) l (b ∷ s) (wordsAhead ws later)
-      by-later {ws} k (tasks vs) g = (Tasks.more (some-byte b s) k (g .0), omega (arith, length-append ws vs, kernel-words k, g .1))
-      by-later k (wrong m) g = NotDue.later {l = l} (omega arith) (some-byte b s) k g
-      by-later k noHeader g = g
-
-      by-row : (r : Row) → readRow (length hs) (columnsOf hs) (readRecord (b ∷ s)) ≡ r → ((after : List ℕ) → Gives n (suc l) after (read n (suc l) after))
-          → Gives (suc n) l (b ∷ s) (orWrong l r (λ rest. read n (suc l) rest))
-      by-row (row ws after) e later = by-later (row-back (b ∷ s) ws after e) (read n (suc l) after) (later after)
-      by-row noRow e later = NotDue.this (some-byte b s) (λ ws after k. let x = row-there k in let z : _≡_ {A = ℕ} 0 1 = cc in omega arith)
-
-  -- a record more, where there are bytes: it is as due, or it is not, or it may not come
-  module _ {s : List ℕ} (bytes-left : s ≡ [] → ⊥) where
-    record-due : (n l : ℕ) {ws after : List ℕ} → Kernel hs s ws after → read (suc n) l s ≡ wordsAhead ws (read n (suc l) after)
-    unfolding readTasks orWrong
-    record-due n l k = at-bytes s bytes-left _ ∙ rw (row-there k)
-
-    not-due : (n l : ℕ) → ((ws after : List ℕ) → Kernel hs s ws after → ⊥) → read (suc n) l s ≡ wrong l
-    unfolding readTasks orWrong
-    not-due n l none-is = at-bytes s bytes-left _ ∙ by-row (readRow (length hs) (columnsOf hs) (readRecord s)) refl
+  module _ (good : goodHeader hs ≡ true) where
+    -- A TASK'S RECORD
+    row-back : (s ws after : List ℕ) → readRow (length hs) (columnsOf hs) (readRecord s) ≡ row ws after → Kernel hs s ws after
+    unfolding columnsOf
+    row-back s ws after e =
+        let was = row-was (length hs) (columnsOf hs) (readRecord s) ws after e in
+        by-numbers (was .cs) (record-exact s (was .cs) after .0 (was .from)) (was .as-many) (was .numbers)
       where
-        by-row : (r : Row) → readRow (length hs) (columnsOf hs) (readRecord s) ≡ r → orWrong l r (λ rest. read n (suc l) rest) ≡ wrong l
-        by-row (row ws after) e = absurd (none-is ws after (row-back s ws after e))
-        by-row noRow e = refl
+        by-numbers : (cs : List (List ℕ)) {us : List ℕ} → Begins s cs after → length cs ≡ length hs → Numbers cs (columnsOf hs) us → Kernel hs s us after
+        by-numbers cs begins as-many (column {v = c} ec (column {v = d} ed (column {v = t} et (column {v = r} er no-column)))) =
+            let names = header-exact hs .0 good in
+            kernel
+            begins
+            as-many
+            (under-exact (nameOf 0) hs cs c (names .0) .0 ec)
+            (under-exact (nameOf 1) hs cs d (names .1) .0 ed)
+            (under-exact (nameOf 2) hs cs t (names .2) .0 et)
+            (under-exact (nameOf 3) hs cs r (names .3) .0 er)
 
-    too-far : (l : ℕ) → read 0 l s ≡ wrong l
-    unfolding readTasks
-    too-far l = at-bytes s bytes-left _
+    row-there : {s ws after : List ℕ} → Kernel hs s ws after → readRow (length hs) (columnsOf hs) (readRecord s) ≡ row ws after
+    unfolding readRow rowOf numbersIn columnsOf also
+    row-there {s} (kernel {cs = cs} {after = after} {c = c} {d = d} {t = t} {r = r} begins as-many ec ed et er) =
+        let names = header-exact hs .0 good in
+        rw (
+          record-exact s cs after .1 begins,
+          eq-eqb (length cs) (length hs) as-many,
+          under-exact (nameOf 0) hs cs c (names .0) .1 ec,
+          under-exact (nameOf 1) hs cs d (names .1) .1 ed,
+          under-exact (nameOf 2) hs cs t (names .2) .1 et,
+          under-exact (nameOf 3) hs cs r (names .3) .1 er,
+        )
 
-  tasks-there : (n l : ℕ) {s ws : List ℕ} → Tasks hs s ws → length ws ≤ 4 * n → read n l s ≡ tasks ws
-  unfolding readTasks atRecord wordsAhead
-  tasks-there zero l Tasks.none h = refl
-  tasks-there (suc n) l Tasks.none h = refl
-  tasks-there zero l (Tasks.more {ws = ws} {vs = vs} bytes-left k others) h = absurd (omega (arith, length-append ws vs, kernel-words k))
-  tasks-there (suc n) l (Tasks.more {ws = ws} {vs = vs} bytes-left k others) h =
-      record-due bytes-left n l k ∙ ap (wordsAhead ws) (tasks-there n (suc l) others (omega (arith, length-append ws vs, kernel-words k)))
+    pub row-exact : (s ws after : List ℕ) → (readRow (length hs) (columnsOf hs) (readRecord s) ≡ row ws after) ↔ Kernel hs s ws after
+    row-exact s ws after = (row-back s ws after, row-there)
 
-  wrong-there : (n : ℕ) {l k : ℕ} {s : List ℕ} → NotDue hs l s k → l + n ≡ 66 → read n l s ≡ wrong k
-  unfolding wordsAhead
-  wrong-there zero (NotDue.this {l = l} bytes-left none-is) h = too-far bytes-left l
-  wrong-there (suc n) (NotDue.this {l = l} bytes-left none-is) h = not-due bytes-left n l none-is
-  wrong-there zero (NotDue.too-many bytes-left) h = too-far bytes-left 66
-  wrong-there (suc n) (NotDue.too-many bytes-left) h = absurd (omega arith)
-  wrong-there zero (NotDue.later below bytes-left k others) h = absurd (omega arith)
-  wrong-there (suc n) (NotDue.later {l = l} {ws = ws} below bytes-left k others) h =
-      record-due bytes-left n l k ∙ ap (wordsAhead ws) (wrong-there n others (omega arith))
+    -- THE RECORDS OF TASKS
+    -- what was read has the paper's words; n records more are those up to record 65
+    gives : (n l : ℕ) (s : List ℕ) → l + n ≡ 66 → Gives n l s (read n l s)
+    unfolding readTasks atRecord orWrong wordsAhead
+    gives zero l [] limit = (Tasks.none, omega arith)
+    gives zero l (b ∷ s) limit =
+        let last : l ≡ 66 = omega arith in
+        rw last (NotDue.too-many (some-byte b s))
+    gives (suc n) l [] limit = (Tasks.none, omega arith)
+    gives (suc n) l (b ∷ s) limit = by-row (readRow (length hs) (columnsOf hs) (readRecord (b ∷ s))) refl (λ after. gives n (suc l) after (omega arith))
+      where
+        by-later : {ws after : List ℕ} → Kernel hs (b ∷ s) ws after → (later : Sheet) → Gives n (suc l) after later → Gives (suc n) l (b ∷ s) (wordsAhead ws later)
+        by-later {ws} due (tasks vs) g = (Tasks.more (some-byte b s) due (g .0), omega (arith, length-append ws vs, kernel-words due, g .1))
+        by-later due (wrong m) g = NotDue.later {l = l} (omega arith) (some-byte b s) due g
+        by-later due noHeader g = g
 
-  pub tasks-exact : (s ws : List ℕ) → (readTasks (length hs) (columnsOf hs) 64 2 s ≡ tasks ws) ↔ (Tasks hs s ws × (length ws ≤ 256))
-  tasks-exact s ws = (λ e. subst (Gives 64 2 s) e (gives 64 2 s refl), λ g. tasks-there 64 2 (g .0) (g .1))
+        by-row : (r : Row) → readRow (length hs) (columnsOf hs) (readRecord (b ∷ s)) ≡ r → ((after : List ℕ) → Gives n (suc l) after (read n (suc l) after))
+            → Gives (suc n) l (b ∷ s) (orWrong l r (λ rest. read n (suc l) rest))
+        by-row (row ws after) e later = by-later (row-back (b ∷ s) ws after e) (read n (suc l) after) (later after)
+        by-row noRow e later = NotDue.this (some-byte b s) (λ ws after due. let x = row-there due in let z : _≡_ {A = ℕ} 0 1 = cc in omega arith)
 
-  pub wrong-exact : (s : List ℕ) (l : ℕ) → (readTasks (length hs) (columnsOf hs) 64 2 s ≡ wrong l) ↔ NotDue hs 2 s l
-  wrong-exact s l = (λ e. subst (Gives 64 2 s) e (gives 64 2 s refl), λ g. wrong-there 64 g refl)
+    -- a record more, where there are bytes: it is as due, or it is not, or it may not come
+    module _ {s : List ℕ} (bytes-left : s ≡ [] → ⊥) where
+      record-due : (n l : ℕ) {ws after : List ℕ} → Kernel hs s ws after → read (suc n) l s ≡ wordsAhead ws (read n (suc l) after)
+      unfolding readTasks orWrong
+      record-due n l due = at-bytes s bytes-left _ ∙ rw (row-there due)
+
+      not-due : (n l : ℕ) → ((ws after : List ℕ) → Kernel hs s ws after → ⊥) → read (suc n) l s ≡ wrong l
+      unfolding readTasks orWrong
+      not-due n l none-is = at-bytes s bytes-left _ ∙ by-row (readRow (length hs) (columnsOf hs) (readRecord s)) refl
+        where
+          by-row : (r : Row) → readRow (length hs) (columnsOf hs) (readRecord s) ≡ r → orWrong l r (λ rest. read n (suc l) rest) ≡ wrong l
+          by-row (row ws after) e = absurd (none-is ws after (row-back s ws after e))
+          by-row noRow e = refl
+
+      too-far : (l : ℕ) → read 0 l s ≡ wrong l
+      unfolding readTasks
+      too-far l = at-bytes s bytes-left _
+
+    -- and what has them is read
+    tasks-there : (n l : ℕ) {s ws : List ℕ} → Tasks hs s ws → length ws ≤ 4 * n → read n l s ≡ tasks ws
+    unfolding readTasks atRecord wordsAhead
+    tasks-there zero l Tasks.none few = refl
+    tasks-there (suc n) l Tasks.none few = refl
+    tasks-there zero l (Tasks.more {ws = ws} {vs = vs} bytes-left due others) few = absurd (omega (arith, length-append ws vs, kernel-words due))
+    tasks-there (suc n) l (Tasks.more {ws = ws} {vs = vs} bytes-left due others) few =
+        record-due bytes-left n l due ∙ ap (wordsAhead ws) (tasks-there n (suc l) others (omega (arith, length-append ws vs, kernel-words due)))
+
+    wrong-there : (n : ℕ) {l k : ℕ} {s : List ℕ} → NotDue hs l s k → l + n ≡ 66 → read n l s ≡ wrong k
+    unfolding wordsAhead
+    wrong-there zero (NotDue.this {l = l} bytes-left none-is) limit = too-far bytes-left l
+    wrong-there (suc n) (NotDue.this {l = l} bytes-left none-is) limit = not-due bytes-left n l none-is
+    wrong-there zero (NotDue.too-many bytes-left) limit = too-far bytes-left 66
+    wrong-there (suc n) (NotDue.too-many bytes-left) limit = absurd (omega arith)
+    wrong-there zero (NotDue.later below bytes-left due others) limit = absurd (omega arith)
+    wrong-there (suc n) (NotDue.later {l = l} {ws = ws} below bytes-left due others) limit =
+        record-due bytes-left n l due ∙ ap (wordsAhead ws) (wrong-there n others (omega arith))
+
+    pub tasks-exact : (s ws : List ℕ) → (readTasks (length hs) (columnsOf hs) 64 2 s ≡ tasks ws) ↔ (Tasks hs s ws × (length ws ≤ 256))
+    tasks-exact s ws = (λ e. subst (Gives 64 2 s) e (gives 64 2 s refl), λ g. tasks-there 64 2 (g .0) (g .1))
+
+    pub wrong-exact : (s : List ℕ) (l : ℕ) → (readTasks (length hs) (columnsOf hs) 64 2 s ≡ wrong l) ↔ NotDue hs 2 s l
+    wrong-exact s l = (λ e. subst (Gives 64 2 s) e (gives 64 2 s refl), λ g. wrong-there 64 g refl)
 
 -- THE SHEET
 module _ (s : List ℕ) where
@@ -219,7 +223,7 @@ module _ (s : List ℕ) where
           → Told (if t then readTasks (length hs) (columnsOf hs) 64 2 after else noHeader)
       by-names hs after e true good = by-tasks (readTasks (length hs) (columnsOf hs) 64 2 after) (gives hs good 64 2 after refl)
         where
-          by-tasks : (x : Sheet) → Gives hs good 64 2 after x → Told x
+          by-tasks : (x : Sheet) → Gives hs 64 2 after x → Told x
           by-tasks (tasks ws) g = (hs, after, header-of e good, g .0, g .1)
           by-tasks (wrong l) g = (hs, after, header-of e good, g)
           by-tasks noHeader g = absurd g

@@ -48,6 +48,7 @@ pub mod Reading
 -- sheets
 pub mod Records
 pub mod SheetGrammar
+pub mod SheetReading
 -- the report and the program's output
 pub mod Printed
 pub mod Lengths

@@ -50,6 +50,7 @@ pub mod Records
 pub mod SheetGrammar
 pub mod SheetNames
 pub mod SheetRecords
+pub mod SheetReading
 -- the report and the program's output
 pub mod Printed
 pub mod Lengths

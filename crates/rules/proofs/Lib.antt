@@ -51,6 +51,7 @@ pub mod SheetGrammar
 pub mod SheetNames
 pub mod SheetRecords
 pub mod SheetReading
+pub mod SheetTrips
 -- the report and the program's output
 pub mod Printed
 pub mod Lengths

@@ -182,6 +182,16 @@ module _ (s : List ℕ) where
     unfolding afterEnd
     ends-crlf n = rw (first-of s p, ne-eqb (getD s 0 0) 10 n)
 
+-- the last field of a record
+module _ (c : List ℕ) where
+  pub last-none : lastOf c none ≡ noStep
+  unfolding lastOf
+  last-none = refl
+
+  pub last-some : (s : List ℕ) → lastOf c (some s) ≡ last c s
+  unfolding lastOf
+  last-some s = refl
+
 -- the next field, as it stands, by the field as it stands
 last-standing : (c : List ℕ) (o : Option (List ℕ)) → standingStep (lastOf c o) ≡ lastOf (doubled c) o
 unfolding standingStep lastOf

@@ -48,6 +48,7 @@ pub mod Reading
 -- sheets
 pub mod Records
 pub mod FieldSteps
+pub mod SheetGrammar
 -- the report and the program's output
 pub mod Printed
 pub mod Lengths

@@ -48,7 +48,12 @@ pub mod Reading
 pub mod TextLengths
 -- sheets
 pub mod Records
+pub mod FieldSteps
 pub mod SheetGrammar
+pub mod SheetNames
+pub mod SheetRecords
+pub mod SheetReading
+pub mod SheetTrips
 -- the report and the program's output
 pub mod Printed
 pub mod Lengths

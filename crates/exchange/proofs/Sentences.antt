@@ -20,7 +20,7 @@ use Rattle.rules.proofs.Refusal.{the-type}
 use Rattle.rules.proofs.Digits.{digits-most}
 use Rattle.print.specs.Place.{Puts}
 use Rattle.print.proofs.Putting.{put-start}
-use Rattle.exchange.specs.Exchange.{phrase, place, badRecord, wrong, sentence, told, madeMost, Makes}
+use Rattle.exchange.specs.Exchange.{phrase, place, badRecord, wrong, sentence, told, madeMost, Gives}
 use Rattle.exchange.specs.declared.Source.{Source}
 use Rattle.exchange.specs.declared.Made.{Made}
 
@@ -86,7 +86,7 @@ sentence-most source r =
     omega (arith, length-append (wrong source r) number, wrong-most source r, phrase-most " (refusal " (numberOf r) ")\n")
 
 -- bytes put at the start are told
-pub told-so : {old exit : List ℕ} {size : ℕ} (vs : List ℕ) → Puts old 0 vs size exit → Makes (told vs) old (Made.Told size) exit
+pub told-so : {old exit : List ℕ} {size : ℕ} (vs : List ℕ) → Puts old 0 vs size exit → Gives (told vs) old (Made.Told size) exit
 told-so {old} vs p =
     let n : 0 + length vs ≡ length vs = omega arith in
     record { says = ap Made.Told (p .says ∙ n); leaves = p .leaves ∙ put-start old vs }

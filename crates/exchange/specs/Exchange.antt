@@ -16,7 +16,6 @@ use Rattle.rules.specs.Answers.{lineRefusal, recordRefusal}
 use Rattle.rules.specs.declared.Refusal.{Refusal}
 use Rattle.rules.specs.declared.Refusal.the-variants.{NoWord, NotFours, TooManyWords, OutOfRange, BadEnd, TooShort, BadLine, NotMisses, NoHeader, BadRecord, NoRecord}
 use Rattle.rules.specs.declared.ReadAnswer.{ReadAnswer}
-use Rattle.rules.specs.declared.WriteAnswer.{WriteAnswer}
 use Rattle.exchange.specs.declared.Source.{Source}
 use Rattle.exchange.specs.declared.Made.{Made}
 
@@ -101,15 +100,10 @@ madeMost = 2057
 abbrev pub InTable : Refusal → Type 0
 InTable r = (i : ℕ) → r ≡ OutOfRange i → i < tableMost
 
--- the reading of an input
+-- the reading of an input into a table with room for 64 tasks
 pub record Reads (source : Source) (input table : List ℕ) (answer : ReadAnswer) (exit : List ℕ) : Type 0 where
   pub says : answer ≡ answering (readingRefusal source input) ReadAnswer.Refused (ReadAnswer.Set (length (wordsIn source input) / 4))
   pub leaves : exit ≡ lent (readingRefusal source input) (wordsIn source input) table
-
--- the writing of its table
-pub record Writes (source : Source) (table out : List ℕ) (answer : WriteAnswer) (exit : List ℕ) : Type 0 where
-  pub says : answer ≡ answering (tableRefusal table) WriteAnswer.Refused (WriteAnswer.Written (length (written source table)))
-  pub leaves : exit ≡ lent (tableRefusal table) (written source table) out
 
 -- an outcome's bytes, and the answer with their length
 abbrev pub bytesOf : Outcome → List ℕ
@@ -121,13 +115,13 @@ answerOf (made vs) = Made.Bytes (length vs)
 answerOf (told vs) = Made.Told (length vs)
 
 -- they stand at the start of the lent bytes, which stay the same beyond
-pub record Makes (outcome : Outcome) (out : List ℕ) (answer : Made) (exit : List ℕ) : Type 0 where
+pub record Gives (outcome : Outcome) (out : List ℕ) (answer : Made) (exit : List ℕ) : Type 0 where
   pub says : answer ≡ answerOf outcome
   pub leaves : exit ≡ bytesOf outcome ++ drop (length (bytesOf outcome)) out
 
 -- two outcomes of one call are equal
-abbrev pub MakesOne : Type 0
-MakesOne = (outcome : Outcome) (out : List ℕ) (a b : Made) (e f : List ℕ) → Makes outcome out a e → Makes outcome out b f → (a ≡ b) × (e ≡ f)
+abbrev pub GivesOne : Type 0
+GivesOne = (outcome : Outcome) (out : List ℕ) (a b : Made) (e f : List ℕ) → Gives outcome out a e → Gives outcome out b f → (a ≡ b) × (e ≡ f)
 
 -- every refusal that is told has words for what is wrong
 abbrev pub AllWorded : Type 0

@@ -54,6 +54,7 @@ pub mod SheetNames
 pub mod SheetRecords
 pub mod SheetReading
 pub mod SheetTrips
+pub mod Rooms
 -- the report and the program's output
 pub mod Printed
 pub mod Lengths

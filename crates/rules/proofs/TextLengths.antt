@@ -84,9 +84,15 @@ module _ (ws : List ℕ) (e : tableRefusal ws ≡ none) where
       let bounds = valid-of ws e in
       omega (arith, text-high, bounds .words, bounds .most-tasks, width-most 1 (length ws / 4) (omega arith) (omega (arith, bounds .words, bounds .most-tasks)))
 
-  -- the sheet of a table: 35 bytes for the first line, and at most 25 for a record
-  pub sheet-most : length (writeSheet ws) ≤ 35 + 25 * (length ws / 4)
+  -- the sheet of a table: 35 bytes for the first line, and at most 25 for each of 64 records
+  pub sheet-most : length (writeSheet ws) ≤ 1635
   unfolding writeSheet
   sheet-most =
       let bounds = valid-of ws e in
-      omega (arith, length-append (bytes "execution,deadline,period,release" ++ crlf) (writeRecords 0 ws), records-high 0 ws words-high, bounds .words)
+      omega (
+        arith,
+        length-append (bytes "execution,deadline,period,release" ++ crlf) (writeRecords 0 ws),
+        records-high 0 ws words-high,
+        bounds .words,
+        bounds .most-tasks,
+      )

@@ -1,2 +1,3 @@
 -- Laws of the sentences, and what the exchange's promise tells.
 mod Sentences
+mod Becomes

@@ -71,7 +71,7 @@ reading-names Source.Text input r e i f = by-set (readSet input) (e ∙ ap some 
     by-set (stop l) g = let z : _≡_ {A = ℕ} 0 1 = cc in absurd (omega arith)
 
 -- an input that is read has four words a task
-words-fours : (source : Source) (input : List ℕ) → readingRefusal source input ≡ none → Fours (wordsIn source input)
+pub words-fours : (source : Source) (input : List ℕ) → readingRefusal source input ≡ none → Fours (wordsIn source input)
 words-fours Source.Sheet input e = sheet-words-fours input e
 words-fours Source.Text input e = set-fours input e
 

@@ -64,8 +64,7 @@ tell-requires-2 c κs =
     let after-write = at-refusal .before .before .before .before in
     let at-set = after-write .before .before .before .before in
     let after-read = at-set .before .before .before in
-    let at-start = after-read .before .before .before .before .before in
-    (
+    let at-start = after-read .before .before .before .before .before in (
       omega (arith, after-write .write-table .kept, at-start .pre),
       unfit-names _ _ (omega arith) (after-read .read-table .ensures) _ (at-set .read2 .given .1) (at-start .pre) (after-write .write-table .ensures) _ (at-refusal .written .given .1),
     )

@@ -46,6 +46,9 @@ print-output-requires-2 c κs = search needs
 enum-known-read-2 : tie.Need-enum-known-read-2
 enum-known-read-2 c = search needs
 
+slice-aggregate-tell-read : tie.Need-slice-aggregate-tell-read
+slice-aggregate-tell-read c = search needs
+
 tell-read-requires : tie.Need-tell-read-requires
 tell-read-requires c κs = search needs
 
@@ -72,6 +75,7 @@ main-spec =
     slice-aggregate-print-output-2
     print-output-requires-2
     enum-known-read-2
+    slice-aggregate-tell-read
     tell-read-requires
     returns
     returns-2

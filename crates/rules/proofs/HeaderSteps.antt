@@ -1,0 +1,138 @@
+-- A header's columns one by one: which of them has a name, how many have it, and when the header is good.
+use mathlib.Core.Path.{_≡_, refl, sym, ap, _∙_}
+use Prim.Native.Nat.{ℕ, zero, suc, _+_, _≤_, _<_}
+use native.Mathlib.Omega.{arith}
+use mathlib.Core.List.{List, [], _∷_, _++_}
+use mathlib.Core.Bool.{Bool, true, false, not, _&&_}
+use mathlib.Core.Option.{none, some}
+use lib.Dec.{eqb}
+use lib.ListN.{length, getD}
+use lib.Seq.{ext-getD}
+use borrow.Author.Tests.{eq-eqb, ne-eqb, eqb-true}
+use Rattle.rules.specs.Choice.{if_then_else_}
+use Rattle.rules.specs.Text.{afterKey}
+use Rattle.rules.specs.Sheet.{nameOf, isName, times, columnFrom, goodHeader, columnsOf}
+use Rattle.rules.proofs.Booleans.{true-is-not-false, both-true, split}
+
+-- a content is a name if nothing is left after it
+module _ (name c : List ℕ) where
+  pub name-missing : afterKey name c ≡ none → isName name c ≡ false
+  unfolding isName
+  name-missing e = rw e
+
+  pub name-begins : (left : List ℕ) → afterKey name c ≡ some left → isName name c ≡ eqb (length left) 0
+  unfolding isName
+  name-begins [] e = rw e
+  name-begins (b ∷ left) e = rw (e, ne-eqb (suc (length left)) 0 (omega arith))
+
+-- the columns that have a name
+module _ (name : List ℕ) where
+  -- where none has it
+  pub unnamed : (k : ℕ) (hs : List (List ℕ)) → times name hs ≡ 0 → columnFrom k name hs ≡ 0
+  unfolding times columnFrom
+  unnamed k [] e = refl
+  unnamed k (h ∷ hs) e = by-name (isName name h) e (unnamed (suc k) hs)
+    where
+      by-name : (b : Bool) → (if b then 1 else 0) + times name hs ≡ 0 → (times name hs ≡ 0 → columnFrom (suc k) name hs ≡ 0)
+          → (if b then k else columnFrom (suc k) name hs) ≡ 0
+      by-name true e later = absurd (omega arith)
+      by-name false e later = later (omega arith)
+
+  -- where some has it, the first that does is one of them
+  pub named : (k : ℕ) (hs : List (List ℕ)) → 0 < times name hs → (k ≤ columnFrom k name hs) × (columnFrom k name hs < k + length hs)
+  unfolding times columnFrom
+  named k [] p = absurd (omega arith)
+  named k (h ∷ hs) p = by-name (isName name h) p (named (suc k) hs)
+    where
+      by-name : (b : Bool) → 0 < (if b then 1 else 0) + times name hs
+          → (0 < times name hs → (suc k ≤ columnFrom (suc k) name hs) × (columnFrom (suc k) name hs < suc k + length hs))
+          → (k ≤ (if b then k else columnFrom (suc k) name hs)) × ((if b then k else columnFrom (suc k) name hs) < k + suc (length hs))
+      by-name true p later = (omega arith, omega arith)
+      by-name false p later = let found = later (omega arith) in (omega arith, omega arith)
+
+  -- one column more
+  pub times-more : (hs : List (List ℕ)) (h : List ℕ) → times name (hs ++ (h ∷ [])) ≡ times name hs + (if isName name h then 1 else 0)
+  unfolding times
+  times-more [] h = omega arith
+  times-more (g ∷ hs) h = omega (arith, times-more hs h)
+
+  pub times-on : (hs gs : List (List ℕ)) → times name hs ≤ times name (hs ++ gs)
+  unfolding times
+  times-on [] gs = omega arith
+  times-on (h ∷ hs) gs = omega (arith, times-on hs gs)
+
+  pub column-more : (k : ℕ) (hs : List (List ℕ)) (h : List ℕ) → (isName name h ≡ true → times name hs ≡ 0)
+      → columnFrom k name (hs ++ (h ∷ [])) ≡ (if isName name h then k + length hs else columnFrom k name hs)
+  unfolding times columnFrom
+  column-more k [] h new = let e : k ≡ k + 0 = omega arith in ap (λ (n : ℕ). if isName name h then n else 0) e
+  column-more k (g ∷ hs) h new = by-names (isName name g) (isName name h) new (column-more (suc k) hs h (λ e. omega (arith, new e)))
+    where
+      by-names : (b d : Bool) → (d ≡ true → (if b then 1 else 0) + times name hs ≡ 0)
+          → columnFrom (suc k) name (hs ++ (h ∷ [])) ≡ (if d then suc k + length hs else columnFrom (suc k) name hs)
+          → (if b then k else columnFrom (suc k) name (hs ++ (h ∷ []))) ≡ (if d then k + suc (length hs) else (if b then k else columnFrom (suc k) name hs))
+      by-names true true new later = absurd (omega (arith, new refl))
+      by-names true false new later = refl
+      by-names false true new later = omega arith
+      by-names false false new later = later
+
+  -- a name that comes at most once comes once where it has a column
+  pub once-named : (hs : List (List ℕ)) → times name hs ≤ 1 → eqb (times name hs) 1 ≡ not (eqb (columnFrom 1 name hs) 0)
+  once-named hs once =
+      split (times name hs) 0 (λ l. let none : times name hs ≡ 0 = omega arith in rw (none, unnamed 1 hs none)) (λ p.
+          let found = named 1 hs p in
+          rw (eq-eqb (times name hs) 1 (omega arith), ne-eqb (columnFrom 1 name hs) 0 (omega arith)))
+
+-- each of four tests, where all of them hold
+module _ (test : ℕ → Bool) (e : test 0 && (test 1 && (test 2 && test 3)) ≡ true) where
+  beyond-first : test 1 && (test 2 && test 3) ≡ true
+  beyond-first = both-true (test 0) (test 1 && (test 2 && test 3)) e .1
+
+  beyond-second : test 2 && test 3 ≡ true
+  beyond-second = both-true (test 1) (test 2 && test 3) beyond-first .1
+
+  each-of-four : (k : ℕ) → k < 4 → test k ≡ true
+  each-of-four zero h = both-true (test 0) (test 1 && (test 2 && test 3)) e .0
+  each-of-four (suc zero) h = both-true (test 1) (test 2 && test 3) beyond-first .0
+  each-of-four (suc (suc zero)) h = both-true (test 2) (test 3) beyond-second .0
+  each-of-four (suc (suc (suc zero))) h = both-true (test 2) (test 3) beyond-second .1
+  each-of-four (suc (suc (suc (suc k)))) h = absurd (omega arith)
+
+-- a header is good by a test of each name
+module _ (hs : List (List ℕ)) where
+  pub good-by : (test : ℕ → Bool) → ((k : ℕ) → k < 4 → eqb (times (nameOf k) hs) 1 ≡ test k) → goodHeader hs ≡ (test 0 && (test 1 && (test 2 && test 3)))
+  unfolding goodHeader
+  good-by test e = rw (e 0 (omega arith), e 1 (omega arith), e 2 (omega arith), e 3 (omega arith))
+
+  -- a good header has each name once
+  pub good-once : goodHeader hs ≡ true → (k : ℕ) → k < 4 → times (nameOf k) hs ≡ 1
+  unfolding goodHeader
+  good-once good k h = eqb-true (times (nameOf k) hs) 1 (each-of-four (λ i. eqb (times (nameOf i) hs) 1) good k h)
+
+  -- and so one with a name twice is not
+  pub twice-bad : (k : ℕ) → k < 4 → 1 < times (nameOf k) hs → goodHeader hs ≡ false
+  twice-bad k h twice = by-test (goodHeader hs) refl
+    where
+      by-test : (b : Bool) → goodHeader hs ≡ b → b ≡ false
+      by-test true good = absurd (omega (arith, good-once good k h))
+      by-test false bad = refl
+
+  -- the columns by their index
+  pub columns-at : (k : ℕ) → k < 4 → getD (columnsOf hs) k 0 ≡ columnFrom 1 (nameOf k) hs
+  unfolding columnsOf
+  columns-at zero h = refl
+  columns-at (suc zero) h = refl
+  columns-at (suc (suc zero)) h = refl
+  columns-at (suc (suc (suc zero))) h = refl
+  columns-at (suc (suc (suc (suc k)))) h = absurd (omega arith)
+
+  pub columns-are : (columns : List ℕ) → length columns ≡ 4 → ((k : ℕ) → k < 4 → getD columns k 0 ≡ columnFrom 1 (nameOf k) hs) → columns ≡ columnsOf hs
+  unfolding columnsOf
+  columns-are columns four each = ext-getD 0 columns (columnsOf hs) four (λ k h. each k (omega arith) ∙ sym (columns-at k (omega arith)))
+
+  -- those of a good header are columns that it has
+  module _ (good : goodHeader hs ≡ true) where
+    pub columns-within : (k : ℕ) → k < 4 → (1 ≤ getD (columnsOf hs) k 0) × (getD (columnsOf hs) k 0 ≤ length hs)
+    columns-within k h = let found = named (nameOf k) 1 hs (omega (arith, good-once good k h)) in rw (columns-at k h) (omega arith)
+
+    pub some-column : 0 < length hs
+    some-column = let within = columns-within 0 (omega arith) in omega arith

@@ -11,8 +11,10 @@ use lib.Seq.{ext-getD}
 use borrow.Author.Tests.{eq-eqb, ne-eqb, eqb-true}
 use Rattle.rules.specs.Choice.{if_then_else_}
 use Rattle.rules.specs.Text.{afterKey}
-use Rattle.rules.specs.Sheet.{nameOf, isName, times, columnFrom, goodHeader, columnsOf}
-use Rattle.rules.proofs.Booleans.{true-is-not-false, both-true, split}
+use Rattle.rules.specs.Numbers.{taskMost}
+use Rattle.rules.specs.Sheet.{Record, fields, noRecord, readRecord, nameOf, isName, times, columnFrom, goodHeader, columnsOf, Row, row, noRow, readRow, Sheet, tasks, wrong, noHeader, wordsAhead, orWrong, atRecord, readTasks, underHeader, readSheet}
+use Rattle.rules.proofs.Booleans.{both-true, split}
+use Rattle.rules.proofs.Records.{befores, befores-fields, befores-nothing}
 
 -- a content is a name if nothing is left after it
 module _ (name c : List ℕ) where
@@ -136,3 +138,44 @@ module _ (hs : List (List ℕ)) where
 
     pub some-column : 0 < length hs
     some-column = let within = columns-within 0 (omega arith) in omega arith
+
+-- a sheet by its header
+module _ (s : List ℕ) where
+  pub no-record : readRecord s ≡ noRecord → readSheet s ≡ noHeader
+  unfolding readSheet underHeader
+  no-record e = rw e
+
+  module _ (hs : List (List ℕ)) (t : List ℕ) (e : readRecord s ≡ fields hs t) where
+    pub bad-header : goodHeader hs ≡ false → readSheet s ≡ noHeader
+    unfolding readSheet underHeader
+    bad-header bad = rw (e, bad)
+
+    pub good-header : goodHeader hs ≡ true → readSheet s ≡ readTasks (length hs) (columnsOf hs) taskMost 2 t
+    unfolding readSheet underHeader
+    good-header good = rw (e, good)
+
+  -- a name that comes twice, whatever follows
+  pub name-twice : (cs : List (List ℕ)) (r : Record) → befores cs r ≡ readRecord s → (k : ℕ) → k < 4 → 1 < times (nameOf k) cs → readSheet s ≡ noHeader
+  name-twice cs (fields ds t) e k h twice =
+      bad-header (cs ++ ds) t (sym e ∙ befores-fields cs ds t) (twice-bad (cs ++ ds) k h (omega (arith, times-on (nameOf k) cs ds)))
+  name-twice cs noRecord e k h twice = no-record (sym e ∙ befores-nothing cs)
+
+-- records of tasks say nothing of the header
+ahead-headed : (ws : List ℕ) (x : Sheet) → wordsAhead ws x ≡ noHeader → x ≡ noHeader
+unfolding wordsAhead
+ahead-headed ws (tasks vs) e = cc
+ahead-headed ws (wrong l) e = cc
+ahead-headed ws noHeader e = refl
+
+module _ (count : ℕ) (columns : List ℕ) where
+  pub tasks-headed : (n l : ℕ) (s : List ℕ) → readTasks count columns n l s ≡ noHeader → ⊥
+  unfolding readTasks atRecord orWrong
+  tasks-headed zero l [] e = let z : _≡_ {A = ℕ} 0 1 = cc in omega arith
+  tasks-headed zero l (b ∷ s) e = let z : _≡_ {A = ℕ} 0 1 = cc in omega arith
+  tasks-headed (suc n) l [] e = let z : _≡_ {A = ℕ} 0 1 = cc in omega arith
+  tasks-headed (suc n) l (b ∷ s) e = by-row (readRow count columns (readRecord (b ∷ s))) (tasks-headed n (suc l)) e
+    where
+      by-row : (r : Row) → ((t : List ℕ) → readTasks count columns n (suc l) t ≡ noHeader → ⊥)
+          → orWrong l r (λ rest. readTasks count columns n (suc l) rest) ≡ noHeader → ⊥
+      by-row (row ws t) later e = later t (ahead-headed ws (readTasks count columns n (suc l) t) e)
+      by-row noRow later e = let z : _≡_ {A = ℕ} 0 1 = cc in omega arith

@@ -46,6 +46,7 @@ pub mod LineTrips
 pub mod SetTrips
 pub mod Reading
 -- sheets
+pub mod Records
 pub mod HeaderSteps
 -- the report and the program's output
 pub mod Printed

@@ -1,6 +1,7 @@
 // The header of a sheet: how many columns there are, and which of them have the four names.
 ghost use mathlib.Core.Path.{_≡_};
 ghost use Prim.Native.Nat.{_<_};
+ghost use lib.ListN.{length};
 ghost use Rattle.rules.specs.Sheet.{nameOf, isName};
 ghost use Rattle.header.specs.Headers.{Notes, allNamed};
 use rules::DEADLINE;
@@ -35,6 +36,7 @@ fn is_column(body: &[u8], which: usize) -> bool
 
 // A column's name is noted where it is one of the four, whose columns are 0 until then; the answer is whether none was noted before.
 fn note_name(body: &[u8], column: usize, columns: &mut [usize; 4]) -> bool
+    requires { ⌜ length (now columns) ≡ 4 ⌝ }
     ensures { λ r. ⌜ Notes (now (body .entry)) column (now (columns .entry)) r (now (columns .exit)) ⌝ }
 {
     let mut k: usize = 0;
@@ -66,4 +68,3 @@ fn all_named(columns: &[usize; 4]) -> bool
     }
     columns[3] != 0
 }
-

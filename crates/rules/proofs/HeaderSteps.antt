@@ -81,8 +81,8 @@ module _ (name : List ℕ) where
   pub once-named : (hs : List (List ℕ)) → times name hs ≤ 1 → eqb (times name hs) 1 ≡ not (eqb (columnFrom 1 name hs) 0)
   once-named hs once =
       split (times name hs) 0 (λ l. let none : times name hs ≡ 0 = omega arith in rw (none, unnamed 1 hs none)) (λ p.
-          let found = named 1 hs p in
-          rw (eq-eqb (times name hs) 1 (omega arith), ne-eqb (columnFrom 1 name hs) 0 (omega arith)))
+      let found = named 1 hs p in
+      rw (eq-eqb (times name hs) 1 (omega arith), ne-eqb (columnFrom 1 name hs) 0 (omega arith)))
 
 -- each of four tests, where all of them hold
 module _ (test : ℕ → Bool) (e : test 0 && (test 1 && (test 2 && test 3)) ≡ true) where

@@ -1,40 +1,48 @@
+-- `header::all_named` meets its contract: the first of the four that is 0 makes `allNamed` false, else the last decides.
+use borrow.Author.Tests.{ne-eqb}
+use lib.ListN.{getD}
+use Rattle.header.specs.Headers.{allNamed}
 use borrow.Author.Needs.{needs}
 use Rattle.header.proofs.all_named.Statement.{statement}
 use Rattle.header.proofs.all_named.Tie as tie
-use Rattle.header.proofs.all_named.Reads as reads
-use Rattle.header.proofs.all_named.Lts as lts
 
--- src/lib.rt:58:8
 element-copy-out-if1 : tie.Need-element-copy-out-if1
 element-copy-out-if1 c = search needs
 
--- src/lib.rt:59:9
 returns : tie.Need-returns
-returns c = ?
+unfolding allNamed
+returns c = rw (c .if1 .taken)
 
--- src/lib.rt:61:8
 element-copy-out-if2 : tie.Need-element-copy-out-if2
 element-copy-out-if2 c = search needs
 
--- src/lib.rt:62:9
 returns-2 : tie.Need-returns-2
-returns-2 c = ?
+unfolding allNamed
+returns-2 c =
+    let columns = c .before .before .before .before .args .columns .now in
+    rw (ne-eqb (getD columns 0 0) 0 (c .before .before .if1 .left), c .if2 .taken)
 
--- src/lib.rt:64:8
 element-copy-out-if3 : tie.Need-element-copy-out-if3
 element-copy-out-if3 c = search needs
 
--- src/lib.rt:65:9
 returns-3 : tie.Need-returns-3
-returns-3 c = ?
+unfolding allNamed
+returns-3 c =
+    let columns = c .before .before .before .before .before .before .args .columns .now in
+    rw (ne-eqb (getD columns 0 0) 0 (c .before .before .before .before .if1 .left), ne-eqb (getD columns 1 0) 0 (c .before .before .if2 .left), c .if3 .taken)
 
--- src/lib.rt:67:5
 element-copy-out-result : tie.Need-element-copy-out-result
 element-copy-out-result c = search needs
 
--- src/lib.rt:55:1
 returns-4 : tie.Need-returns-4
-returns-4 c = ?
+unfolding allNamed
+returns-4 c =
+    let columns = c .before .before .before .before .before .before .before .args .columns .now in
+    rw (
+      ne-eqb (getD columns 0 0) 0 (c .before .before .before .before .before .if1 .left),
+      ne-eqb (getD columns 1 0) 0 (c .before .before .before .if2 .left),
+      ne-eqb (getD columns 2 0) 0 (c .before .if3 .left),
+    )
 
 pub all-named-spec : {M : Type 1} → statement M
 all-named-spec =

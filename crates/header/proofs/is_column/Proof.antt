@@ -1,57 +1,47 @@
+-- `header::is_column` meets its contract: each arm asks for the name of its number, the last for that of 3.
+use mathlib.Core.Path.{_≡_}
+use native.Mathlib.Omega.{arith}
 use borrow.Author.Needs.{needs}
 use Rattle.header.proofs.is_column.Statement.{statement}
 use Rattle.header.proofs.is_column.Tie as tie
-use Rattle.header.proofs.is_column.Reads as reads
-use Rattle.header.proofs.is_column.Lts as lts
-use Rattle.header.proofs.is_name.Reads as is-name-reads
 
--- src/lib.rt:29:28
 slice-aggregate-is-name : tie.Need-slice-aggregate-is-name
 slice-aggregate-is-name c = search needs
 
--- src/lib.rt:29:14
 is-name-requires : tie.Need-is-name-requires
 is-name-requires c κs = search needs
 
--- src/lib.rt:30:28
 slice-aggregate-is-name-2 : tie.Need-slice-aggregate-is-name-2
 slice-aggregate-is-name-2 c = search needs
 
--- src/lib.rt:30:14
 is-name-requires-2 : tie.Need-is-name-requires-2
 is-name-requires-2 c κs = search needs
 
--- src/lib.rt:31:28
 slice-aggregate-is-name-3 : tie.Need-slice-aggregate-is-name-3
 slice-aggregate-is-name-3 c = search needs
 
--- src/lib.rt:31:14
 is-name-requires-3 : tie.Need-is-name-requires-3
 is-name-requires-3 c κs = search needs
 
--- src/lib.rt:32:28
 slice-aggregate-is-name-4 : tie.Need-slice-aggregate-is-name-4
 slice-aggregate-is-name-4 c = search needs
 
--- src/lib.rt:32:14
 is-name-requires-4 : tie.Need-is-name-requires-4
 is-name-requires-4 c κs = search needs
 
--- src/lib.rt:24:1
 returns : tie.Need-returns
-returns c = ?
+returns c = rw (c .before .before .match .keys1) (c .is-name .ensures)
 
--- src/lib.rt:24:1
 returns-2 : tie.Need-returns-2
-returns-2 c = ?
+returns-2 c = rw (c .before .before .match .keys2) (c .is-name2 .ensures)
 
--- src/lib.rt:24:1
 returns-3 : tie.Need-returns-3
-returns-3 c = ?
+returns-3 c = rw (c .before .before .match .keys3) (c .is-name3 .ensures)
 
--- src/lib.rt:24:1
 returns-4 : tie.Need-returns-4
-returns-4 c = ?
+returns-4 c =
+    let last : c .before .before .before .before .args .which ≡ 3 = omega arith in
+    rw last (c .is-name4 .ensures)
 
 pub is-column-spec : {M : Type 1} → statement M
 is-column-spec =

@@ -1,58 +1,61 @@
+-- `header::note_name` meets its contract: at each turn the names looked at have the column if they are the bytes, and the others stay; one that has a
+-- column already ends the search.
+use mathlib.Core.Path.{sym, _∙_}
+use Prim.Native.Nat.{_-_}
+use mathlib.Core.Logic.{⊎-elim}
+use native.Mathlib.Omega.{arith}
+use Rattle.header.proofs.Noting.{Noting, none-yet, other-name, the-name, noted-before, all-noted}
+use borrow.Author.Needs.{needs}
 use Rattle.header.proofs.note_name.Statement.{statement}
 use Rattle.header.proofs.note_name.Tie as tie
-use Rattle.header.proofs.note_name.Reads as reads
-use Rattle.header.proofs.note_name.Lts as lts
-use Rattle.header.proofs.is_column.Reads as is-column-reads
 
 abbrev Inv-loop : tie.InvT-loop
-Inv-loop body column columns₀ k₀ columns k = ?
+Inv-loop body column columns₀ k₀ columns k = Noting body column columns₀ k columns
 
 abbrev μ-loop : tie.MeasureT-loop
-μ-loop body column columns₀ k₀ columns k = ?
+μ-loop body column columns₀ k₀ columns k = 4 - k
 
--- src/lib.rt:41:5
 loop-holds : tie.Need-loop-holds Inv-loop μ-loop
-loop-holds c = ?
+loop-holds c = none-yet _ _ _
 
--- src/lib.rt:42:13
 is-column-requires : tie.Need-is-column-requires Inv-loop μ-loop
-is-column-requires c κs = ?
+is-column-requires c κs = search needs
 
--- src/lib.rt:44:16
 mul-if2 : tie.Need-mul-if2 Inv-loop μ-loop
-mul-if2 c = ?
+mul-if2 c = search needs
 
--- src/lib.rt:44:16
 element-copy-out-if2 : tie.Need-element-copy-out-if2 Inv-loop μ-loop
-element-copy-out-if2 c = ?
+element-copy-out-if2 c = search needs
 
--- src/lib.rt:45:17
 returns : tie.Need-returns Inv-loop μ-loop
-returns c = ?
+returns c =
+    let asked = c .before .before .before .is-column in
+    let at-loop = c .before .before .before .before .before in
+    noted-before _ _ _ _ _ (at-loop .loop .inv) (omega arith) (sym (asked .ensures) ∙ c .before .before .if1 .taken) (c .if2 .taken)
 
--- src/lib.rt:47:13
 mul-columns : tie.Need-mul-columns Inv-loop μ-loop
-mul-columns c = ?
+mul-columns c = search needs
 
--- src/lib.rt:47:13
 element-write-columns : tie.Need-element-write-columns Inv-loop μ-loop
-element-write-columns c = ?
+element-write-columns c = search needs
 
--- src/lib.rt:49:9
 add-k : tie.Need-add-k Inv-loop μ-loop
-add-k c = ?
+add-k c = search needs
 
--- src/lib.rt:41:5
 loop-less : tie.Need-loop-less Inv-loop μ-loop
-loop-less c = ?
+loop-less c = search needs
 
--- src/lib.rt:41:5
 loop-again : tie.Need-loop-again Inv-loop μ-loop
-loop-again c = ?
+loop-again c =
+    let asked = c .before .is-column in
+    let at-loop = c .before .before .before in
+    ⊎-elim
+    (λ named. rw (named .3) (the-name _ _ _ _ _ (at-loop .loop .inv) (omega arith) (sym (asked .ensures) ∙ named .0 .taken) (named .2 .left)))
+    (λ other. rw (other .1) (other-name _ _ _ _ _ (at-loop .loop .inv) (sym (asked .ensures) ∙ other .0 .left)))
+    (c .if1 .came)
 
--- src/lib.rt:37:1
 returns-2 : tie.Need-returns-2 Inv-loop μ-loop
-returns-2 c = ?
+returns-2 c = all-noted _ _ _ _ _ (c .before .loop .inv) (omega arith)
 
 pub note-name-spec : {M : Type 1} → statement M
 note-name-spec =

@@ -1,0 +1,2 @@
+-- Laws for the code that reads a header.
+pub mod Noting

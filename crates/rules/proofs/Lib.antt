@@ -47,6 +47,7 @@ pub mod SetTrips
 pub mod Reading
 -- sheets
 pub mod Records
+pub mod FieldSteps
 pub mod SheetGrammar
 pub mod HeaderSteps
 -- the report and the program's output

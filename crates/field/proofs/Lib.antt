@@ -1,2 +1,3 @@
 -- Laws for the code that reads one field.
 pub mod Fields
+pub mod Records

@@ -1,9 +1,11 @@
 // The header of a sheet: how many columns there are, and which of them have the four names.
 ghost use mathlib.Core.Path.{_≡_};
 ghost use Prim.Native.Nat.{_<_};
+ghost use mathlib.Core.List.{[], _∷_};
 ghost use lib.ListN.{length};
 ghost use Rattle.rules.specs.Sheet.{nameOf, isName};
-ghost use Rattle.header.specs.Headers.{Notes, allNamed};
+ghost use Rattle.header.specs.Headers.{Notes, allNamed, Heads};
+use field::Next;
 use rules::DEADLINE;
 use rules::EXECUTION;
 use rules::PERIOD;
@@ -67,4 +69,36 @@ fn all_named(columns: &[usize; 4]) -> bool
         return false;
     }
     columns[3] != 0
+}
+
+// The header at the start of a sheet: how many columns it has, 0 where it is missing or bad; those of the four names go to columns, counted from 1,
+// and the bytes after the header to rest.
+pub fn read_header<'a>(s: &'a [u8], columns: &mut [usize; 4], rest: &mut &'a [u8]) -> usize
+    requires { ⌜ now columns ≡ 0 ∷ 0 ∷ 0 ∷ 0 ∷ [] ⌝ }
+    ensures { λ r. ⌜ Heads (now (s .entry)) (now (now (rest .entry))) r (now (columns .exit)) (now (now (rest .exit))) ⌝ }
+{
+    let mut t = s;
+    let mut count: usize = 0;
+    loop {
+        let mut body = t;
+        let mut u = t;
+        let next = field::next_field(t, &mut body, &mut u);
+        if let Next::Wrong = next {
+            return 0;
+        }
+        count += 1;
+        let once = note_name(body, count, columns);
+        if !once {
+            return 0;
+        }
+        if let Next::Last = next {
+            let all = all_named(columns);
+            if !all {
+                return 0;
+            }
+            *rest = u;
+            return count;
+        }
+        t = u;
+    }
 }

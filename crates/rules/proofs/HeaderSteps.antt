@@ -41,7 +41,7 @@ module _ (name : List ℕ) where
       by-name false e later = later (omega arith)
 
   -- where some has it, the first that does is one of them
-  pub named : (k : ℕ) (hs : List (List ℕ)) → 0 < times name hs → (k ≤ columnFrom k name hs) × (columnFrom k name hs < k + length hs)
+  named : (k : ℕ) (hs : List (List ℕ)) → 0 < times name hs → (k ≤ columnFrom k name hs) × (columnFrom k name hs < k + length hs)
   unfolding times columnFrom
   named k [] p = absurd (omega arith)
   named k (h ∷ hs) p = by-name (isName name h) p (named (suc k) hs)
@@ -52,18 +52,23 @@ module _ (name : List ℕ) where
       by-name true p later = (omega arith, omega arith)
       by-name false p later = let found = later (omega arith) in (omega arith, omega arith)
 
+  -- no column
+  pub times-none : times name [] ≡ 0
+  unfolding times
+  times-none = refl
+
   -- one column more
-  pub times-more : (hs : List (List ℕ)) (h : List ℕ) → times name (hs ++ (h ∷ [])) ≡ times name hs + (if isName name h then 1 else 0)
+  times-more : (hs : List (List ℕ)) (h : List ℕ) → times name (hs ++ (h ∷ [])) ≡ times name hs + (if isName name h then 1 else 0)
   unfolding times
   times-more [] h = omega arith
   times-more (g ∷ hs) h = omega (arith, times-more hs h)
 
-  pub times-on : (hs gs : List (List ℕ)) → times name hs ≤ times name (hs ++ gs)
+  times-on : (hs gs : List (List ℕ)) → times name hs ≤ times name (hs ++ gs)
   unfolding times
   times-on [] gs = omega arith
   times-on (h ∷ hs) gs = omega (arith, times-on hs gs)
 
-  pub column-more : (k : ℕ) (hs : List (List ℕ)) (h : List ℕ) → (isName name h ≡ true → times name hs ≡ 0)
+  column-more : (k : ℕ) (hs : List (List ℕ)) (h : List ℕ) → (isName name h ≡ true → times name hs ≡ 0)
       → columnFrom k name (hs ++ (h ∷ [])) ≡ (if isName name h then k + length hs else columnFrom k name hs)
   unfolding times columnFrom
   column-more k [] h new = let e : k ≡ k + 0 = omega arith in ap (λ (n : ℕ). if isName name h then n else 0) e
@@ -77,10 +82,33 @@ module _ (name : List ℕ) where
       by-names false true new later = omega arith
       by-names false false new later = later
 
+  -- where none has it so far, one column more has it once at most; else that one is one too many
+  module _ (hs : List (List ℕ)) where
+    pub no-column : columnFrom 1 name hs ≡ 0 → times name hs ≡ 0
+    no-column e = split (times name hs) 0 (λ l. omega arith) (λ p. absurd (omega (arith, named 1 hs p)))
+
+    module _ (h : List ℕ) where
+      module _ (new : isName name h ≡ true → columnFrom 1 name hs ≡ 0) where
+        pub first-more : columnFrom 1 name (hs ++ (h ∷ [])) ≡ (if isName name h then length hs + 1 else columnFrom 1 name hs)
+        first-more =
+            let e : 1 + length hs ≡ length hs + 1 = omega arith in
+            column-more 1 hs h (λ is. no-column (new is)) ∙ ap (λ (n : ℕ). if isName name h then n else columnFrom 1 name hs) e
+
+        pub once-more : times name hs ≤ 1 → times name (hs ++ (h ∷ [])) ≤ 1
+        once-more once = by-name (isName name h) refl
+          where
+            by-name : (b : Bool) → isName name h ≡ b → times name (hs ++ (h ∷ [])) ≤ 1
+            by-name true e = rw (times-more hs h, e) (omega (arith, no-column (new e)))
+            by-name false e = rw (times-more hs h, e) (omega arith)
+
+      pub twice-more : isName name h ≡ true → (columnFrom 1 name hs ≡ 0 → ⊥) → 1 < times name (hs ++ (h ∷ []))
+      twice-more is before =
+          split (times name hs) 0 (λ l. absurd (before (unnamed 1 hs (omega arith)))) (λ p. rw (times-more hs h, is) (omega arith))
+
   -- a name that comes at most once comes once where it has a column
   pub once-named : (hs : List (List ℕ)) → times name hs ≤ 1 → eqb (times name hs) 1 ≡ not (eqb (columnFrom 1 name hs) 0)
   once-named hs once =
-      split (times name hs) 0 (λ l. let none : times name hs ≡ 0 = omega arith in rw (none, unnamed 1 hs none)) (λ p.
+      split (times name hs) 0 (λ l. let never : times name hs ≡ 0 = omega arith in rw (never, unnamed 1 hs never)) (λ p.
       let found = named 1 hs p in
       rw (eq-eqb (times name hs) 1 (omega arith), ne-eqb (columnFrom 1 name hs) 0 (omega arith)))
 

@@ -1,0 +1,58 @@
+-- The fields of a header one after another: which of the four names have come, and in which columns.
+use mathlib.Core.Path.{_≡_, refl, sym, ap, _∙_}
+use Prim.Native.Nat.{ℕ, _+_, _≤_, _<_}
+use native.Mathlib.Omega.{arith}
+use mathlib.Core.List.{List, [], _∷_, _++_, append-nil}
+use mathlib.Core.Bool.{Bool, true, false, not}
+use lib.Dec.{eqb}
+use lib.ListN.{length, getD, length-append, getD-replicate}
+use Rattle.rules.specs.Choice.{if_then_else_}
+use Rattle.rules.specs.Sheet.{Record, fields, noRecord, before, readRecord, nameOf, isName, times, columnFrom, goodHeader, columnsOf, readSheet, noHeader}
+use Rattle.rules.specs.Sheets.{doubled}
+use Rattle.rules.proofs.Records.{befores, befores-none, befores-more, befores-fields, befores-nothing, name-standing}
+use Rattle.rules.proofs.HeaderSteps.{unnamed, times-none, first-more, once-more, twice-more, once-named, good-by, columns-are, no-record, bad-header, name-twice}
+use Rattle.header.specs.Headers.{Notes, allNamed, Heads}
+
+-- the columns of the names that have come are noted, and none came twice
+pub record Noted (cs : List (List ℕ)) (columns : List ℕ) : Type 0 where
+  pub four : length columns ≡ 4
+  pub each : (k : ℕ) → k < 4 → getD columns k 0 ≡ columnFrom 1 (nameOf k) cs
+  pub once : (k : ℕ) → k < 4 → times (nameOf k) cs ≤ 1
+
+noted-none : Noted [] (0 ∷ 0 ∷ 0 ∷ 0 ∷ [])
+noted-none = record {
+  four = refl;
+  each = λ k h. getD-replicate 4 k 0 0 h ∙ sym (unnamed (nameOf k) 1 [] (times-none (nameOf k)));
+  once = λ k h. omega (arith, times-none (nameOf k));
+}
+
+-- one field more
+module _ (cs : List (List ℕ)) (columns : List ℕ) (so-far : Noted cs columns) (c : List ℕ) (exit : List ℕ) where
+  module _ (says : Notes (doubled c) (length cs + 1) columns true exit) where
+    -- a name that it is has no column yet
+    new : (k : ℕ) → k < 4 → isName (nameOf k) c ≡ true → columnFrom 1 (nameOf k) cs ≡ 0
+    new k h is = sym (so-far .each k h) ∙ says .new refl k h (name-standing k c ∙ is)
+
+    noted-more : Noted (cs ++ (c ∷ [])) exit
+    noted-more = record {
+      four = says .four ∙ so-far .four;
+      each = λ k h.
+          rw (first-more (nameOf k) cs c (new k h), ← so-far .each k h, ← name-standing k c) (says .notes refl k h);
+      once = λ k h. once-more (nameOf k) cs c (new k h) (so-far .once k h);
+    }
+
+  noted-twice : Notes (doubled c) (length cs + 1) columns false exit → (k : ℕ) × (k < 4) × (1 < times (nameOf k) (cs ++ (c ∷ [])))
+  noted-twice says =
+      let found = says .twice refl in
+      let k = found .0 in
+      (k, found .1, twice-more (nameOf k) cs c (sym (name-standing k c) ∙ found .2) (λ e. found .3 (so-far .each k (found .1) ∙ e)))
+
+-- all fields are read
+module _ (hs : List (List ℕ)) (columns : List ℕ) (all : Noted hs columns) where
+  good-is : goodHeader hs ≡ allNamed columns
+  unfolding allNamed
+  good-is =
+      good-by hs (λ k. not (eqb (getD columns k 0) 0)) (λ k h. once-named (nameOf k) hs (all .once k h) ∙ ap (λ (n : ℕ). not (eqb n 0)) (sym (all .each k h)))
+
+  columns-noted : columns ≡ columnsOf hs
+  columns-noted = columns-are hs columns (all .four) (all .each)

@@ -34,8 +34,7 @@ module _ (s body rest : List ℕ) where
       let found = stands-more body rest (nextField s) e in
       (found .0, found .2, record-more s (found .0) rest (found .1))
   field-found Last t e =
-      let found = stands-last body rest (nextField s) e in
-      (
+      let found = stands-last body rest (nextField s) e in (
         found .0,
         found .2,
         record-last s (found .0) rest (found .1)

@@ -11,7 +11,7 @@ use Rattle.rules.specs.Sheet.{Record, fields, noRecord, before, readRecord, nam
 use Rattle.rules.specs.Sheets.{doubled}
 use Rattle.rules.proofs.Records.{befores, befores-none, befores-more, befores-fields, befores-nothing, name-standing}
 use Rattle.rules.proofs.HeaderSteps.{unnamed, times-none, first-more, once-more, twice-more, once-named, good-by, columns-are, no-record, bad-header, name-twice}
-use Rattle.header.specs.Headers.{Notes, allNamed, Heads}
+use Rattle.header.specs.Headers.{Notes, allNamed, Heads, good}
 
 -- the columns of the names that have come are noted, and none came twice
 pub record Noted (cs : List (List ℕ)) (columns : List ℕ) : Type 0 where
@@ -56,3 +56,48 @@ module _ (hs : List (List ℕ)) (columns : List ℕ) (all : Noted hs columns) wh
 
   columns-noted : columns ≡ columnsOf hs
   columns-noted = columns-are hs columns (all .four) (all .each)
+
+-- so many fields of the header of s are read and noted, and so much of its record is left
+pub record Headed (s : List ℕ) (left : Record) (count : ℕ) (columns : List ℕ) : Type 0 where
+  pub contents : List (List ℕ)
+  pub reads : befores contents left ≡ readRecord s
+  pub counts : length contents ≡ count
+  pub noted : Noted contents columns
+
+pub headed-none : (s columns : List ℕ) → columns ≡ 0 ∷ 0 ∷ 0 ∷ 0 ∷ [] → Headed s (readRecord s) 0 columns
+headed-none s columns e = record { contents = []; reads = befores-none (readRecord s); counts = refl; noted = rw e noted-none }
+
+module _ {s columns : List ℕ} {count : ℕ} where
+  -- what is left is no record
+  pub headed-wrong : Headed s noRecord count columns → readSheet s ≡ noHeader
+  headed-wrong so-far = no-record s (sym (so-far .reads) ∙ befores-nothing (so-far .contents))
+
+  -- a field is left, whose name is looked for
+  module _ (c : List ℕ) (left : Record) (so-far : Headed s (before c left) count columns) (exit : List ℕ) where
+    with-field : befores (so-far .contents ++ (c ∷ [])) left ≡ readRecord s
+    with-field = sym (befores-more (so-far .contents) c left) ∙ so-far .reads
+
+    pub headed-twice : Notes (doubled c) (count + 1) columns false exit → readSheet s ≡ noHeader
+    headed-twice says =
+        let found = noted-twice (so-far .contents) columns (so-far .noted) c exit (rw (so-far .counts) says) in
+        name-twice s (so-far .contents ++ (c ∷ [])) left with-field (found .0) (found .1) (found .2)
+
+    pub headed-more : Notes (doubled c) (count + 1) columns true exit → Headed s left (count + 1) exit
+    headed-more says = record {
+      contents = so-far .contents ++ (c ∷ []);
+      reads = with-field;
+      counts = length-append (so-far .contents) (c ∷ []) ∙ ap (λ (n : ℕ). n + 1) (so-far .counts);
+      noted = noted-more (so-far .contents) columns (so-far .noted) c exit (rw (so-far .counts) says);
+    }
+
+  -- no field is left
+  module _ {u : List ℕ} (all : Headed s (fields [] u) count columns) where
+    whole : readRecord s ≡ fields (all .contents) u
+    whole = sym (all .reads) ∙ befores-fields (all .contents) [] u ∙ ap (λ (hs : List (List ℕ)). fields hs u) (append-nil (all .contents))
+
+    pub headed-bad : allNamed columns ≡ false → readSheet s ≡ noHeader
+    headed-bad missing = bad-header s (all .contents) u whole (good-is (all .contents) columns (all .noted) ∙ missing)
+
+    pub headed-good : allNamed columns ≡ true → (old : List ℕ) → Heads s old count columns u
+    headed-good named old =
+        rw (← all .counts, columns-noted (all .contents) columns (all .noted)) (good whole (good-is (all .contents) columns (all .noted) ∙ named))

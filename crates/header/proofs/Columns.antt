@@ -3,15 +3,15 @@ use mathlib.Core.Path.{_≡_, refl, sym, ap, _∙_}
 use Prim.Native.Nat.{ℕ, _+_, _≤_, _<_}
 use native.Mathlib.Omega.{arith}
 use mathlib.Core.List.{List, [], _∷_, _++_, append-nil}
-use mathlib.Core.Bool.{Bool, true, false, not}
+use mathlib.Core.Bool.{true, false, not}
 use lib.Dec.{eqb}
 use lib.ListN.{length, getD, length-append, getD-replicate}
-use Rattle.rules.specs.Choice.{if_then_else_}
+use Rattle.rules.specs.Numbers.{taskMost}
 use Rattle.rules.specs.Sheet.{Record, fields, noRecord, before, readRecord, nameOf, isName, times, columnFrom, goodHeader, columnsOf, readSheet, noHeader}
 use Rattle.rules.specs.Sheets.{doubled}
 use Rattle.rules.proofs.Records.{befores, befores-none, befores-more, befores-fields, befores-nothing, name-standing}
-use Rattle.rules.proofs.HeaderSteps.{unnamed, times-none, first-more, once-more, twice-more, once-named, good-by, columns-are, no-record, bad-header, name-twice}
-use Rattle.header.specs.Headers.{Notes, allNamed, Heads, good}
+use Rattle.rules.proofs.HeaderSteps.{unnamed, times-none, first-more, once-more, twice-more, once-named, good-by, columns-are, no-record, bad-header, good-header, name-twice, tasks-headed}
+use Rattle.header.specs.Headers.{Notes, allNamed, Heads, bad, good, HeadsOne}
 
 -- the columns of the names that have come are noted, and none came twice
 pub record Noted (cs : List (List ℕ)) (columns : List ℕ) : Type 0 where
@@ -101,3 +101,15 @@ module _ {s columns : List ℕ} {count : ℕ} where
     pub headed-good : allNamed columns ≡ true → (old : List ℕ) → Heads s old count columns u
     headed-good named old =
         rw (← all .counts, columns-noted (all .contents) columns (all .noted)) (good whole (good-is (all .contents) columns (all .noted) ∙ named))
+
+-- one outcome: no header is both good and bad, and a good one is one record's
+good-only : {A : Type 0} (s : List ℕ) (hs : List (List ℕ)) (after : List ℕ) → readRecord s ≡ fields hs after → goodHeader hs ≡ true → readSheet s ≡ noHeader → A
+good-only s hs after e g f = absurd (tasks-headed (length hs) (columnsOf hs) taskMost 2 after (sym (good-header s hs after e g) ∙ f))
+
+pub heads-one : HeadsOne
+heads-one s old m n columns others after rest (bad e) (bad f) = (refl, refl, λ k. absurd (k refl))
+heads-one s old m n columns others after rest (bad e) (good f g) = good-only s _ rest f g e
+heads-one s old m n columns others after rest (good e g) (bad f) = good-only s _ after e g f
+heads-one s old m n columns others after rest (good {hs} e g) (good {hs = gs} f h) =
+    let same : hs ≡ gs = cc in
+    (ap length same, (cc), λ k. ap columnsOf same)

@@ -7,8 +7,8 @@ use types.Run.{OneOf, miss}
 use lib.ListN.{length}
 use Rattle.rules.specs.Sheet.{nextField, Record, fields, noRecord, before, readRecord}
 use Rattle.rules.specs.Sheets.{doubled, standingStep}
-use Rattle.rules.proofs.FieldSteps.{stands-more, stands-last, stands-none}
 use Rattle.rules.proofs.Records.{more-shorter, record-more, record-last, record-none, befores-none, befores-more, befores-fields}
+use Rattle.rules.proofs.FieldSteps.{stands-more, stands-last, stands-none}
 use Rattle.field.specs.Fields.{stepped}
 use Rattle.field.specs.declared.Next.{Next}
 use Rattle.field.specs.declared.Next.the-variants.{More, Last, Wrong}
@@ -34,17 +34,15 @@ module _ (s body rest : List ℕ) where
       let found = stands-more body rest (nextField s) e in
       (found .0, found .2, record-more s (found .0) rest (found .1))
   field-found Last t e =
-      let found = stands-last body rest (nextField s) e in (
-        found .0,
-        found .2,
-        record-last s (found .0) rest (found .1)
-            ∙ sym (sym (befores-none (before (found .0) (fields [] rest))) ∙ befores-more [] (found .0) (fields [] rest) ∙ befores-fields (found .0 ∷ []) [] rest),
-      )
+      let found = stands-last body rest (nextField s) e in
+      let c = found .0 in
+      let alone : before c (fields [] rest) ≡ fields (c ∷ []) rest = sym (befores-none (before c (fields [] rest))) ∙ befores-more [] c (fields [] rest) ∙ befores-fields (c ∷ []) [] rest in
+      (c, found .2, record-last s c rest (found .1) ∙ sym alone)
   field-found Wrong t e = absurd (miss (0 ∷ 1 ∷ []) 2 tt t)
 
   -- none is
-  pub no-field : (a : Next) → a ≡ Wrong → stepped a body rest ≡ standingStep (nextField s) → readRecord s ≡ noRecord
-  no-field a n e = record-none s (stands-none (nextField s) (ap (λ (x : Next). stepped x body rest) (sym n) ∙ e))
+  pub none-found : (a : Next) → a ≡ Wrong → stepped a body rest ≡ standingStep (nextField s) → readRecord s ≡ noRecord
+  none-found a n e = record-none s (stands-none (nextField s) (ap (λ (x : Next). stepped x body rest) (sym n) ∙ e))
 
   -- more fields come: fewer bytes are left
   pub fewer-left : (a : Next) → a ≡ More → stepped a body rest ≡ standingStep (nextField s) → length rest < length s

@@ -6,11 +6,10 @@ use mathlib.Core.List.{List, [], _∷_, _++_, append-nil}
 use mathlib.Core.Bool.{true, false, not}
 use lib.Dec.{eqb}
 use lib.ListN.{length, getD, length-append, getD-replicate}
-use Rattle.rules.specs.Numbers.{taskMost}
 use Rattle.rules.specs.Sheet.{Record, fields, noRecord, before, readRecord, nameOf, isName, times, columnFrom, goodHeader, columnsOf, readSheet, noHeader}
 use Rattle.rules.specs.Sheets.{doubled}
 use Rattle.rules.proofs.Records.{befores, befores-none, befores-more, befores-fields, befores-nothing, name-standing}
-use Rattle.rules.proofs.HeaderSteps.{unnamed, times-none, first-more, once-more, twice-more, once-named, good-by, columns-are, no-record, bad-header, good-header, name-twice, tasks-headed}
+use Rattle.rules.proofs.HeaderSteps.{unnamed, times-none, first-more, once-more, twice-more, once-named, good-by, columns-are, no-record, bad-header, not-both, name-twice}
 use Rattle.header.specs.Headers.{Notes, allNamed, Heads, bad, good, HeadsOne}
 
 -- the columns of the names that have come are noted, and none came twice
@@ -37,8 +36,8 @@ module _ (cs : List (List ℕ)) (columns : List ℕ) (so-far : Noted cs columns)
     noted-more = record {
       four = says .four ∙ so-far .four;
       each = λ k h.
-          rw (first-more (nameOf k) cs c (new k h), ← so-far .each k h, ← name-standing k c) (says .notes refl k h);
-      once = λ k h. once-more (nameOf k) cs c (new k h) (so-far .once k h);
+          rw (first-more (nameOf k) cs (so-far .once k h) c (new k h), ← so-far .each k h, ← name-standing k c) (says .notes refl k h);
+      once = λ k h. once-more (nameOf k) cs (so-far .once k h) c (new k h);
     }
 
   noted-twice : Notes (doubled c) (length cs + 1) columns false exit → (k : ℕ) × (k < 4) × (1 < times (nameOf k) (cs ++ (c ∷ [])))
@@ -103,13 +102,10 @@ module _ {s columns : List ℕ} {count : ℕ} where
         rw (← all .counts, columns-noted (all .contents) columns (all .noted)) (good whole (good-is (all .contents) columns (all .noted) ∙ named))
 
 -- one outcome: no header is both good and bad, and a good one is one record's
-good-only : {A : Type 0} (s : List ℕ) (hs : List (List ℕ)) (after : List ℕ) → readRecord s ≡ fields hs after → goodHeader hs ≡ true → readSheet s ≡ noHeader → A
-good-only s hs after e g f = absurd (tasks-headed (length hs) (columnsOf hs) taskMost 2 after (sym (good-header s hs after e g) ∙ f))
-
 pub heads-one : HeadsOne
 heads-one s old m n columns others after rest (bad e) (bad f) = (refl, refl, λ k. absurd (k refl))
-heads-one s old m n columns others after rest (bad e) (good f g) = good-only s _ rest f g e
-heads-one s old m n columns others after rest (good e g) (bad f) = good-only s _ after e g f
+heads-one s old m n columns others after rest (bad e) (good f g) = absurd (not-both s _ rest f g e)
+heads-one s old m n columns others after rest (good e g) (bad f) = absurd (not-both s _ after e g f)
 heads-one s old m n columns others after rest (good {hs} e g) (good {hs = gs} f h) =
     let same : hs ≡ gs = cc in
     (ap length same, (cc), λ k. ap columnsOf same)

@@ -8,13 +8,16 @@ use mathlib.Core.Option.{none, some}
 use lib.Dec.{eqb}
 use lib.ListN.{length, getD}
 use lib.Seq.{ext-getD}
-use borrow.Author.Tests.{eq-eqb, ne-eqb, eqb-true}
+use borrow.Author.Tests.{eq-eqb, ne-eqb}
 use Rattle.rules.specs.Choice.{if_then_else_}
 use Rattle.rules.specs.Text.{afterKey}
 use Rattle.rules.specs.Numbers.{taskMost}
-use Rattle.rules.specs.Sheet.{Record, fields, noRecord, readRecord, nameOf, isName, times, columnFrom, goodHeader, columnsOf, Row, row, noRow, readRow, Sheet, tasks, wrong, noHeader, wordsAhead, orWrong, atRecord, readTasks, underHeader, readSheet}
-use Rattle.rules.proofs.Booleans.{both-true, split}
+use Rattle.rules.specs.Sheet.{Record, fields, noRecord, readRecord, nameOf, isName, times, columnFrom, goodHeader, columnsOf, noHeader, readTasks, underHeader, readSheet}
+use Rattle.rules.specs.Sheets.{Once}
+use Rattle.rules.proofs.Booleans.{split}
 use Rattle.rules.proofs.Records.{befores, befores-fields, befores-nothing}
+use Rattle.rules.proofs.SheetNames.{once-exact, column-is, header-exact}
+use Rattle.rules.proofs.SheetRecords.{header-of, sheet-none}
 
 -- a content is a name if nothing is left after it
 module _ (name c : List ℕ) where
@@ -39,18 +42,6 @@ module _ (name : List ℕ) where
           → (if b then k else columnFrom (suc k) name hs) ≡ 0
       by-name true e later = absurd (omega arith)
       by-name false e later = later (omega arith)
-
-  -- where some has it, the first that does is one of them
-  named : (k : ℕ) (hs : List (List ℕ)) → 0 < times name hs → (k ≤ columnFrom k name hs) × (columnFrom k name hs < k + length hs)
-  unfolding times columnFrom
-  named k [] p = absurd (omega arith)
-  named k (h ∷ hs) p = by-name (isName name h) p (named (suc k) hs)
-    where
-      by-name : (b : Bool) → 0 < (if b then 1 else 0) + times name hs
-          → (0 < times name hs → (suc k ≤ columnFrom (suc k) name hs) × (columnFrom (suc k) name hs < suc k + length hs))
-          → (k ≤ (if b then k else columnFrom (suc k) name hs)) × ((if b then k else columnFrom (suc k) name hs) < k + suc (length hs))
-      by-name true p later = (omega arith, omega arith)
-      by-name false p later = let found = later (omega arith) in (omega arith, omega arith)
 
   -- no column
   pub times-none : times name [] ≡ 0
@@ -82,50 +73,41 @@ module _ (name : List ℕ) where
       by-names false true new later = omega arith
       by-names false false new later = later
 
-  -- where none has it so far, one column more has it once at most; else that one is one too many
-  module _ (hs : List (List ℕ)) where
-    pub no-column : columnFrom 1 name hs ≡ 0 → times name hs ≡ 0
-    no-column e = split (times name hs) 0 (λ l. omega arith) (λ p. absurd (omega (arith, named 1 hs p)))
+  -- one that has it where another has is one too many
+  pub twice-more : (hs : List (List ℕ)) (h : List ℕ) → isName name h ≡ true → (columnFrom 1 name hs ≡ 0 → ⊥) → 1 < times name (hs ++ (h ∷ []))
+  twice-more hs h is before =
+      split (times name hs) 0 (λ l. absurd (before (unnamed 1 hs (omega arith)))) (λ p. rw (times-more hs h, is) (omega arith))
 
-    module _ (h : List ℕ) where
-      module _ (new : isName name h ≡ true → columnFrom 1 name hs ≡ 0) where
-        pub first-more : columnFrom 1 name (hs ++ (h ∷ [])) ≡ (if isName name h then length hs + 1 else columnFrom 1 name hs)
-        first-more =
-            let e : 1 + length hs ≡ length hs + 1 = omega arith in
-            column-more 1 hs h (λ is. no-column (new is)) ∙ ap (λ (n : ℕ). if isName name h then n else columnFrom 1 name hs) e
+  -- a name that comes once at most comes once where it has a column
+  module _ (hs : List (List ℕ)) (once : times name hs ≤ 1) where
+    once-found : 0 < times name hs → 0 < columnFrom 1 name hs
+    once-found p = omega (arith, column-is name hs (once-exact name hs .0 (omega arith)))
 
-        pub once-more : times name hs ≤ 1 → times name (hs ++ (h ∷ [])) ≤ 1
-        once-more once = by-name (isName name h) refl
-          where
-            by-name : (b : Bool) → isName name h ≡ b → times name (hs ++ (h ∷ [])) ≤ 1
-            by-name true e = rw (times-more hs h, e) (omega (arith, no-column (new e)))
-            by-name false e = rw (times-more hs h, e) (omega arith)
+    pub once-named : eqb (times name hs) 1 ≡ not (eqb (columnFrom 1 name hs) 0)
+    once-named = split (times name hs) 0 never found
+      where
+        never : times name hs ≤ 0 → eqb (times name hs) 1 ≡ not (eqb (columnFrom 1 name hs) 0)
+        never l = let e : times name hs ≡ 0 = omega arith in rw (e, unnamed 1 hs e)
 
-      pub twice-more : isName name h ≡ true → (columnFrom 1 name hs ≡ 0 → ⊥) → 1 < times name (hs ++ (h ∷ []))
-      twice-more is before =
-          split (times name hs) 0 (λ l. absurd (before (unnamed 1 hs (omega arith)))) (λ p. rw (times-more hs h, is) (omega arith))
+        found : 0 < times name hs → eqb (times name hs) 1 ≡ not (eqb (columnFrom 1 name hs) 0)
+        found p = rw (eq-eqb (times name hs) 1 (omega arith), ne-eqb (columnFrom 1 name hs) 0 (omega (arith, once-found p)))
 
-  -- a name that comes at most once comes once where it has a column
-  pub once-named : (hs : List (List ℕ)) → times name hs ≤ 1 → eqb (times name hs) 1 ≡ not (eqb (columnFrom 1 name hs) 0)
-  once-named hs once =
-      split (times name hs) 0 (λ l. let never : times name hs ≡ 0 = omega arith in rw (never, unnamed 1 hs never)) (λ p.
-      let found = named 1 hs p in
-      rw (eq-eqb (times name hs) 1 (omega arith), ne-eqb (columnFrom 1 name hs) 0 (omega arith)))
+    -- one column more, which has it only where none has so far
+    module _ (h : List ℕ) (new : isName name h ≡ true → columnFrom 1 name hs ≡ 0) where
+      none-before : isName name h ≡ true → times name hs ≡ 0
+      none-before is = split (times name hs) 0 (λ l. omega arith) (λ p. absurd (omega (arith, once-found p, new is)))
 
--- each of four tests, where all of them hold
-module _ (test : ℕ → Bool) (e : test 0 && (test 1 && (test 2 && test 3)) ≡ true) where
-  beyond-first : test 1 && (test 2 && test 3) ≡ true
-  beyond-first = both-true (test 0) (test 1 && (test 2 && test 3)) e .1
+      pub first-more : columnFrom 1 name (hs ++ (h ∷ [])) ≡ (if isName name h then length hs + 1 else columnFrom 1 name hs)
+      first-more =
+          let e : 1 + length hs ≡ length hs + 1 = omega arith in
+          column-more 1 hs h none-before ∙ ap (λ (n : ℕ). if isName name h then n else columnFrom 1 name hs) e
 
-  beyond-second : test 2 && test 3 ≡ true
-  beyond-second = both-true (test 1) (test 2 && test 3) beyond-first .1
-
-  each-of-four : (k : ℕ) → k < 4 → test k ≡ true
-  each-of-four zero h = both-true (test 0) (test 1 && (test 2 && test 3)) e .0
-  each-of-four (suc zero) h = both-true (test 1) (test 2 && test 3) beyond-first .0
-  each-of-four (suc (suc zero)) h = both-true (test 2) (test 3) beyond-second .0
-  each-of-four (suc (suc (suc zero))) h = both-true (test 2) (test 3) beyond-second .1
-  each-of-four (suc (suc (suc (suc k)))) h = absurd (omega arith)
+      pub once-more : times name (hs ++ (h ∷ [])) ≤ 1
+      once-more = by-name (isName name h) refl
+        where
+          by-name : (b : Bool) → isName name h ≡ b → times name (hs ++ (h ∷ [])) ≤ 1
+          by-name true e = rw (times-more hs h, e) (omega (arith, none-before e))
+          by-name false e = rw (times-more hs h, e) (omega arith)
 
 -- a header is good by a test of each name
 module _ (hs : List (List ℕ)) where
@@ -134,20 +116,23 @@ module _ (hs : List (List ℕ)) where
   good-by test e = rw (e 0 (omega arith), e 1 (omega arith), e 2 (omega arith), e 3 (omega arith))
 
   -- a good header has each name once
-  pub good-once : goodHeader hs ≡ true → (k : ℕ) → k < 4 → times (nameOf k) hs ≡ 1
-  unfolding goodHeader
-  good-once good k h = eqb-true (times (nameOf k) hs) 1 (each-of-four (λ i. eqb (times (nameOf i) hs) 1) good k h)
+  names-once : goodHeader hs ≡ true → (k : ℕ) → k < 4 → Once (nameOf k) hs
+  names-once good zero h = header-exact hs .0 good .0
+  names-once good (suc zero) h = header-exact hs .0 good .1
+  names-once good (suc (suc zero)) h = header-exact hs .0 good .2
+  names-once good (suc (suc (suc zero))) h = header-exact hs .0 good .3
+  names-once good (suc (suc (suc (suc k)))) h = absurd (omega arith)
 
   -- and so one with a name twice is not
-  pub twice-bad : (k : ℕ) → k < 4 → 1 < times (nameOf k) hs → goodHeader hs ≡ false
+  twice-bad : (k : ℕ) → k < 4 → 1 < times (nameOf k) hs → goodHeader hs ≡ false
   twice-bad k h twice = by-test (goodHeader hs) refl
     where
       by-test : (b : Bool) → goodHeader hs ≡ b → b ≡ false
-      by-test true good = absurd (omega (arith, good-once good k h))
+      by-test true good = absurd (omega (arith, once-exact (nameOf k) hs .1 (names-once good k h)))
       by-test false bad = refl
 
   -- the columns by their index
-  pub columns-at : (k : ℕ) → k < 4 → getD (columnsOf hs) k 0 ≡ columnFrom 1 (nameOf k) hs
+  columns-at : (k : ℕ) → k < 4 → getD (columnsOf hs) k 0 ≡ columnFrom 1 (nameOf k) hs
   unfolding columnsOf
   columns-at zero h = refl
   columns-at (suc zero) h = refl
@@ -162,7 +147,9 @@ module _ (hs : List (List ℕ)) where
   -- those of a good header are columns that it has
   module _ (good : goodHeader hs ≡ true) where
     pub columns-within : (k : ℕ) → k < 4 → (1 ≤ getD (columnsOf hs) k 0) × (getD (columnsOf hs) k 0 ≤ length hs)
-    columns-within k h = let found = named (nameOf k) 1 hs (omega (arith, good-once good k h)) in rw (columns-at k h) (omega arith)
+    columns-within k h =
+        let once = names-once good k h in
+        rw (columns-at k h) (omega (arith, column-is (nameOf k) hs once, once .there))
 
     pub some-column : 0 < length hs
     some-column = let within = columns-within 0 (omega arith) in omega arith
@@ -182,28 +169,11 @@ module _ (s : List ℕ) where
     unfolding readSheet underHeader
     good-header good = rw (e, good)
 
+    pub not-both : goodHeader hs ≡ true → readSheet s ≡ noHeader → ⊥
+    not-both good none-is = sheet-none s .0 none-is hs t (header-of s e good)
+
   -- a name that comes twice, whatever follows
   pub name-twice : (cs : List (List ℕ)) (r : Record) → befores cs r ≡ readRecord s → (k : ℕ) → k < 4 → 1 < times (nameOf k) cs → readSheet s ≡ noHeader
   name-twice cs (fields ds t) e k h twice =
       bad-header (cs ++ ds) t (sym e ∙ befores-fields cs ds t) (twice-bad (cs ++ ds) k h (omega (arith, times-on (nameOf k) cs ds)))
   name-twice cs noRecord e k h twice = no-record (sym e ∙ befores-nothing cs)
-
--- records of tasks say nothing of the header
-ahead-headed : (ws : List ℕ) (x : Sheet) → wordsAhead ws x ≡ noHeader → x ≡ noHeader
-unfolding wordsAhead
-ahead-headed ws (tasks vs) e = cc
-ahead-headed ws (wrong l) e = cc
-ahead-headed ws noHeader e = refl
-
-module _ (count : ℕ) (columns : List ℕ) where
-  pub tasks-headed : (n l : ℕ) (s : List ℕ) → readTasks count columns n l s ≡ noHeader → ⊥
-  unfolding readTasks atRecord orWrong
-  tasks-headed zero l [] e = let z : _≡_ {A = ℕ} 0 1 = cc in omega arith
-  tasks-headed zero l (b ∷ s) e = let z : _≡_ {A = ℕ} 0 1 = cc in omega arith
-  tasks-headed (suc n) l [] e = let z : _≡_ {A = ℕ} 0 1 = cc in omega arith
-  tasks-headed (suc n) l (b ∷ s) e = by-row (readRow count columns (readRecord (b ∷ s))) (tasks-headed n (suc l)) e
-    where
-      by-row : (r : Row) → ((t : List ℕ) → readTasks count columns n (suc l) t ≡ noHeader → ⊥)
-          → orWrong l r (λ rest. readTasks count columns n (suc l) rest) ≡ noHeader → ⊥
-      by-row (row ws t) later e = later t (ahead-headed ws (readTasks count columns n (suc l) t) e)
-      by-row noRow later e = let z : _≡_ {A = ℕ} 0 1 = cc in omega arith

@@ -12,7 +12,7 @@ use Rattle.rules.specs.Sheets.{doubled}
 use Rattle.header.specs.Headers.{bad}
 use Rattle.field.specs.declared.Next.{Next}
 use Rattle.field.specs.declared.Next.the-variants.{More}
-use Rattle.field.proofs.Records.{is-more, afterField, field-found, no-field, fewer-left}
+use Rattle.field.proofs.Records.{is-more, afterField, field-found, none-found, fewer-left}
 use Rattle.header.proofs.Columns.{Headed, headed-none, headed-wrong, headed-twice, headed-more, headed-bad, headed-good}
 use Rattle.header.proofs.read_header.Statement.{statement}
 use Rattle.header.proofs.read_header.Tie as tie
@@ -80,7 +80,7 @@ returns : tie.Need-returns Inv-loop μ-loop
 returns c =
     let searched = c .before .before .next-field in
     let inv = at-loop (c .before .before) .loop .inv in
-    rw (inv .0) (bad (headed-wrong (rw (no-field _ _ _ (searched .result) (c .enum-told .given .1) (searched .ensures .says)) at (inv .2))))
+    rw (inv .0) (bad (headed-wrong (rw (none-found _ _ _ (searched .result) (c .enum-told .given .1) (searched .ensures .says)) at (inv .2))))
 
 add-count : tie.Need-add-count Inv-loop μ-loop
 add-count c = search needs

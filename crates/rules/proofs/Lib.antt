@@ -49,6 +49,10 @@ pub mod Reading
 pub mod Records
 pub mod FieldSteps
 pub mod SheetGrammar
+pub mod SheetNames
+pub mod SheetRecords
+pub mod SheetReading
+pub mod SheetTrips
 -- the report and the program's output
 pub mod Printed
 pub mod Lengths

@@ -45,6 +45,8 @@ pub mod WriteSteps
 pub mod LineTrips
 pub mod SetTrips
 pub mod Reading
+-- the sheet, read
+pub mod RowSteps
 -- the report and the program's output
 pub mod Printed
 pub mod Lengths

@@ -1,0 +1,2 @@
+-- Laws for the code that reads the records after a header.
+pub mod Stored

@@ -45,7 +45,8 @@ pub mod WriteSteps
 pub mod LineTrips
 pub mod SetTrips
 pub mod Reading
--- the sheet, read
+-- sheets
+pub mod Records
 pub mod RowSteps
 -- the report and the program's output
 pub mod Printed

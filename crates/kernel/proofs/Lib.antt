@@ -1,2 +1,3 @@
 -- Laws for the code that reads the records after a header.
 pub mod Stored
+pub mod Rows

@@ -25,6 +25,7 @@ pub record Stores (body : List ℕ) (column : ℕ) (columns old : List ℕ) (ans
 
 -- the columns of the four names are columns of the header, which are counted from 1
 pub record Within (columns : List ℕ) (count : ℕ) : Type 0 where
+  pub four : length columns ≡ 4
   pub from-one : (k : ℕ) → k < 4 → 1 ≤ getD columns k 0
   pub to-last : (k : ℕ) → k < 4 → getD columns k 0 ≤ count
 

@@ -47,7 +47,9 @@ pub mod SetTrips
 pub mod Reading
 -- sheets
 pub mod Records
+pub mod FieldSteps
 pub mod RowSteps
+pub mod SheetGrammar
 -- the report and the program's output
 pub mod Printed
 pub mod Lengths

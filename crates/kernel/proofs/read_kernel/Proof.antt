@@ -16,7 +16,7 @@ use Rattle.rules.proofs.Booleans.{true-is-not-false}
 use Rattle.field.specs.declared.Next.{Next}
 use Rattle.field.specs.declared.Next.the-variants.{More, Last, Wrong}
 use Rattle.field.proofs.Next.{the-type}
-use Rattle.field.proofs.Records.{is-more, afterField, field-found, no-field, fewer-left}
+use Rattle.field.proofs.Records.{is-more, afterField, field-found, none-found, fewer-left}
 use Rattle.kernel.proofs.Rows.{Taking, none-taken, broken, refused, one-more, miscounted, complete}
 use Rattle.kernel.proofs.read_kernel.Statement.{statement}
 use Rattle.kernel.proofs.read_kernel.Tie as tie
@@ -62,7 +62,7 @@ loop-holds c =
     (refl, at-entry .pre .0, omega arith, none-taken _ _ _ (at-entry .pre .1) _)
 
 next-field-requires : tie.Need-next-field-requires Inv-loop μ-loop
-next-field-requires c κs = ?
+next-field-requires c κs = search needs
 
 enum-told : tie.Need-enum-told Inv-loop μ-loop
 enum-told c = search needs
@@ -78,7 +78,7 @@ returns c =
     let at-entry = at-loop .before .before .before in
     record {
       four = at-loop .loop .inv .1;
-      says = sym (broken _ _ _ (at-entry .pre .1) (at-loop .loop .inv .3) (no-field _ (next .last .1 .0 .now) (next .last .1 .1 .0 .now) (next .result) (c .enum-told .given .1) (next .ensures .says)));
+      says = sym (broken _ _ _ (at-entry .pre .1) (at-loop .loop .inv .3) (none-found _ (next .last .1 .0 .now) (next .last .1 .1 .0 .now) (next .result) (c .enum-told .given .1) (next .ensures .says)));
       keeps = λ e. ap (λ x. x .now) (at-loop .loop .inv .0);
     }
 

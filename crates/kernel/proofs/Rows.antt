@@ -4,7 +4,7 @@ use Prim.Native.Nat.{ℕ, _+_, _-_, _≤_, _<_}
 use native.Mathlib.Omega.{arith}
 use mathlib.Core.List.{List, [], _∷_, _++_, append-nil}
 use mathlib.Core.Bool.{Bool, true, false}
-use mathlib.Core.Option.{none, some}
+use mathlib.Core.Option.{some}
 use lib.ListN.{length, getD, length-append, List·getD-append}
 use lib.Seq.{getD-at}
 use Rattle.rules.specs.Sheet.{Record, fields, noRecord, before, fieldNumber, row, noRow, readRow}
@@ -74,14 +74,14 @@ module _ (due : Record) (columns : List ℕ) (count : ℕ) (in-header : Within c
               reads = grown;
               counted = longer;
               numbers = λ k h l.
-                split
-                (getD columns k 0)
-                n
-                (λ m.
+                  split
+                  (getD columns k 0)
+                  n
+                  (λ m.
                   ap fieldNumber (List·getD-append (so-far .contents) (c ∷ []) [] (getD columns k 0 - 1) (omega (arith, in-header .from-one k h, so-far .counted)))
                   ∙ so-far .numbers k h m
                   ∙ ap some (sym (stores .elsewhere k h (λ e. omega arith))))
-                (λ m.
+                  (λ m.
                   let here : getD columns k 0 ≡ n + 1 = omega arith in
                   ap fieldNumber (at-last k here) ∙ sym number ∙ stores .here t k h here);
             }
@@ -112,5 +112,5 @@ module _ (due : Record) (columns : List ℕ) (count : ℕ) (in-header : Within c
           (so-far .counted ∙ same)
           (four ∙ sym (in-header .four))
           (λ k h.
-            let within : k < 4 = omega (arith, in-header .four) in
-            so-far .numbers k within (omega (arith, in-header .to-last k within)))
+          let within : k < 4 = omega (arith, in-header .four) in
+          so-far .numbers k within (omega (arith, in-header .to-last k within)))

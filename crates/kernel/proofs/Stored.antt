@@ -7,7 +7,7 @@ use mathlib.Core.List.{List}
 use mathlib.Core.Option.{some}
 use lib.ListN.{length, getD, set, length-set}
 use lib.Seq.{getD-set-same, getD-set-other}
-use borrow.Author.Count.{below-none, below-more}
+use borrow.Author.Count.{below-more}
 use Rattle.rules.specs.Sheet.{fieldNumber}
 
 pub record Stored (body : List ℕ) (column : ℕ) (columns old words : List ℕ) (k : ℕ) : Type 0 where

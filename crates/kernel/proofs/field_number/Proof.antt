@@ -2,7 +2,6 @@
 use mathlib.Core.Path.{_≡_, sym}
 use Prim.Native.Nat.{ℕ}
 use mathlib.Core.List.{List}
-use mathlib.Core.Option.{none}
 use lib.ListN.{length}
 use Rattle.rules.specs.Text.{readNumber}
 use Rattle.rules.specs.Sheet.{fieldNumber}

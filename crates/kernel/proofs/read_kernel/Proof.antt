@@ -3,10 +3,7 @@
 use mathlib.Core.Path.{_≡_, refl, sym, ap, _∙_}
 use Prim.Native.Nat.{ℕ, _+_, _≤_, _<_}
 use native.Mathlib.Omega.{arith}
-use mathlib.Core.List.{List, [], _∷_}
-use denote.Enum.Declared.{tagOf}
-use types.Run.{OneOf, miss}
-use mathlib.Core.Bool.{true}
+use mathlib.Core.List.{List}
 use lib.ListN.{length}
 use borrow.Author.Needs.{needs}
 use borrow.Author.Tests.{not-true, not-false}
@@ -14,8 +11,7 @@ use Rattle.rules.specs.Sheet.{before, readRecord}
 use Rattle.rules.specs.Sheets.{doubled}
 use Rattle.rules.proofs.Booleans.{true-is-not-false}
 use Rattle.field.specs.declared.Next.{Next}
-use Rattle.field.specs.declared.Next.the-variants.{More, Last, Wrong}
-use Rattle.field.proofs.Next.{the-type}
+use Rattle.field.specs.declared.Next.the-variants.{More, Last}
 use Rattle.field.proofs.Records.{is-more, afterField, field-found, none-found, fewer-left}
 use Rattle.kernel.proofs.Rows.{Taking, none-taken, broken, refused, one-more, miscounted, complete}
 use Rattle.kernel.proofs.read_kernel.Statement.{statement}

@@ -1,5 +1,5 @@
 -- `kernel::store_number` meets its contract: at each turn the words before k whose column it is hold the number, and the others are as they were.
-use mathlib.Core.Path.{refl, sym, ap, _∙_}
+use mathlib.Core.Path.{sym, ap, _∙_}
 use mathlib.Core.Logic.{⊎-elim}
 use Prim.Native.Nat.{_-_}
 use native.Mathlib.Omega.{arith}

@@ -208,6 +208,10 @@ pub fn extreme() -> Vec<Vec<u8>> {
             sheets.push(sheet);
         }
     }
+    for good in [0, 1, 30, 62, 63, 64] {
+        let (before, after) = (b"1,2,3,4\n".repeat(good), b"1,2,3,4\n".repeat(80 - good));
+        sheets.push([HEADER, b"\n", &before, b"1,2,3\n", &after].concat());
+    }
     for count in [1, 100, 10_000] {
         sheets.extend(MARKS.iter().map(|&mark| vec![mark; count]));
         sheets.extend([count - 1, count, count + 1].map(|fields| wide(count, fields)));

@@ -1,7 +1,8 @@
 //! `cases texts FOLDER COUNT` writes that many texts for the program into a folder;
 //! `cases exact LENGTH` prints a text of well-formed sets of exactly that many bytes;
-//! `cases sheets FOLDER COUNT` writes that many sheets, and as many texts to be made into sheets:
-//! N.sheet or N.back, and beside it in N.out and N.err what has to be written for it.
+//! `cases sheets FOLDER COUNT` writes that many drawn sheets and those at the edges as sheet-N.in, and
+//! as many texts to be made into sheets as back-N.in; beside each, what has to be written for it to
+//! standard output (.out) and to standard error (.err).
 
 use cases::{sheets, texts, Random};
 use std::io::{self, Write};
@@ -50,29 +51,25 @@ fn print_exact(length: usize) -> io::Result<()> {
 
 fn write_sheets(folder: &str, count: usize) -> io::Result<()> {
     let mut random = Random::new(SEED);
-    for number in 1..=count {
-        let path = Path::new(folder).join(format!("{:05}", 2 * number - 1));
-        let sheet = sheets::for_program(&mut random);
-        write_case(&path, "sheet", &sheet, oracle::convert::to_text(&sheet))?;
-        let path = Path::new(folder).join(format!("{:05}", 2 * number));
+    let drawn: Vec<Vec<u8>> = (0..count).map(|_| sheets::for_program(&mut random)).collect();
+    for (number, sheet) in drawn.into_iter().chain(sheets::extreme()).enumerate() {
+        let path = Path::new(folder).join(format!("sheet-{number:05}"));
+        write_case(&path, &sheet, oracle::convert::to_text(&sheet))?;
+    }
+    for number in 0..count {
+        let path = Path::new(folder).join(format!("back-{number:05}"));
         let text = texts::for_program(&mut random);
-        write_case(&path, "back", &text, oracle::convert::to_sheet(&text))?;
+        write_case(&path, &text, oracle::convert::to_sheet(&text))?;
     }
     Ok(())
 }
 
-/// The input under its kind, and what has to be written for it.
-fn write_case(
-    path: &Path,
-    kind: &str,
-    input: &[u8],
-    wanted: Result<Vec<u8>, String>,
-) -> io::Result<()> {
+fn write_case(path: &Path, input: &[u8], wanted: Result<Vec<u8>, String>) -> io::Result<()> {
     let (out, told) = match wanted {
         Ok(made) => (made, String::new()),
         Err(told) => (Vec::new(), format!("tilecheck: {told}\n")),
     };
-    std::fs::write(path.with_extension(kind), input)?;
+    std::fs::write(path.with_extension("in"), input)?;
     std::fs::write(path.with_extension("out"), out)?;
     std::fs::write(path.with_extension("err"), told)
 }

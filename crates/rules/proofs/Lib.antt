@@ -48,6 +48,7 @@ pub mod Reading
 -- sheets
 pub mod Records
 pub mod FieldSteps
+pub mod RowSteps
 pub mod SheetGrammar
 pub mod SheetNames
 pub mod SheetRecords

@@ -35,7 +35,12 @@ found c a e =
 
 -- and its number is stored
 stored : (c : tie.Else1 Inv-loop μ-loop) (a : Next) → c .before .before .before .before .before .before .next-field .result ≡ a
-    → Taking (readRecord (c .before .before .before .before .before .before .before .before .before .before .before .before .args .s .now)) (c .before .before .before .before .before .before .before .before .before .before .before .before .args .columns .now) (c .before .before .before .store-number .last .1 .1 .1 .0) (c .before .before .before .before .before .before .before .before .before .loop .n + 1) (afterField a (c .before .before .before .before .before .before .next-field .last .1 .1 .0 .now))
+    → Taking
+    (readRecord (c .before .before .before .before .before .before .before .before .before .before .before .before .args .s .now))
+    (c .before .before .before .before .before .before .before .before .before .before .before .before .args .columns .now)
+    (c .before .before .before .store-number .last .1 .1 .1 .0)
+    (c .before .before .before .before .before .before .before .before .before .loop .n + 1)
+    (afterField a (c .before .before .before .before .before .before .next-field .last .1 .1 .0 .now))
 stored c a e =
     let after-store = c .before .before .before in
     let at-loop = after-store .before .before .before .before .before .before in
@@ -87,6 +92,7 @@ store-number-requires c κs = search needs
 same-length-2 : tie.Need-same-length-2 Inv-loop μ-loop
 same-length-2 c = search needs
 
+-- a field is no number where one is due
 returns-2 : tie.Need-returns-2 Inv-loop μ-loop
 returns-2 c =
     let after-store = c .before .before .before in
@@ -104,19 +110,21 @@ enum-told-2 c = search needs
 same-length-3 : tie.Need-same-length-3 Inv-loop μ-loop
 same-length-3 c = search needs
 
+-- another number of fields than the header
 returns-3 : tie.Need-returns-3 Inv-loop μ-loop
 returns-3 c =
     let after-store = c .before .before .before .before .before .before in
     let at-loop = after-store .before .before .before .before .before .before in
     record {
       four = after-store .store-number .ensures .four ∙ at-loop .loop .inv .1;
-      says = sym (miscounted _ _ _ (at-loop .before .before .before .pre .1) (stored (c .before .before .before) Last (c .before .enum-told2 .given .1)) _ refl (c .if2 .taken));
+      says = sym (miscounted _ _ _ (at-loop .before .before .before .pre .1) (stored (c .before .before .before) Last (c .before .enum-told2 .given .1)) _ refl (λ e. omega arith));
       keeps = λ e. ap (λ x. x .now) (at-loop .loop .inv .0);
     }
 
 same-length-4 : tie.Need-same-length-4 Inv-loop μ-loop
 same-length-4 c = search needs
 
+-- the row
 returns-4 : tie.Need-returns-4 Inv-loop μ-loop
 returns-4 c =
     let after-store = c .before .before .before .before .before .before in
@@ -124,7 +132,7 @@ returns-4 c =
     let four = after-store .store-number .ensures .four ∙ at-loop .loop .inv .1 in
     record {
       four = four;
-      says = sym (complete _ _ _ (at-loop .before .before .before .pre .1) (stored (c .before .before .before) Last (c .before .enum-told2 .given .1)) _ refl (c .if2 .left) four);
+      says = sym (complete _ _ _ (at-loop .before .before .before .pre .1) (stored (c .before .before .before) Last (c .before .enum-told2 .given .1)) _ refl (omega arith) four);
       keeps = λ e. true-is-not-false e;
     }
 

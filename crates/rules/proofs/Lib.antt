@@ -50,6 +50,11 @@ pub mod Records
 pub mod FieldSteps
 pub mod RowSteps
 pub mod SheetGrammar
+pub mod SheetNames
+pub mod SheetRecords
+pub mod SheetReading
+pub mod SheetTrips
+pub mod HeaderSteps
 -- the report and the program's output
 pub mod Printed
 pub mod Lengths

@@ -18,14 +18,14 @@ use Rattle.rules.proofs.LineTrips.{key-there, key-back}
 use Rattle.rules.proofs.Records.{double-other, more-shorter, record-more, record-last, record-none}
 
 -- no quote, comma, CR or LF
-abbrev Plain : ℕ → Type 0
+abbrev pub Plain : ℕ → Type 0
 Plain b = (b ≡ 34 → ⊥) × (b ≡ 44 → ⊥) × (b ≡ 13 → ⊥) × (b ≡ 10 → ⊥)
 
 neither : (a b : Bool) → a || b ≡ false → (a ≡ false) × (b ≡ false)
 neither true b e = (e, (cc))
 neither false b e = (refl, e)
 
-plain-byte : (b : ℕ) → mark b ≡ false → Plain b
+pub plain-byte : (b : ℕ) → mark b ≡ false → Plain b
 unfolding mark
 plain-byte b e =
     let q = neither (eqb b 34) (eqb b 44 || (eqb b 13 || eqb b 10)) e in

@@ -45,6 +45,9 @@ pub mod WriteSteps
 pub mod LineTrips
 pub mod SetTrips
 pub mod Reading
+-- sheets, written and read
+pub mod SheetWriting
+pub mod SheetCalls
 -- the report and the program's output
 pub mod Printed
 pub mod Lengths

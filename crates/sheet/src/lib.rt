@@ -6,45 +6,45 @@ ghost use lib.ListN.{length, drop};
 ghost use Rattle.rules.specs.Numbers.{tableMost};
 ghost use Rattle.rules.specs.Text.{digits};
 ghost use Rattle.rules.specs.Sheet.{afterWord, writeSheet};
-ghost use Rattle.rules.specs.Calls.{ReadsSheet, WritesSheet};
+ghost use Rattle.rules.specs.Calls.{WritesSheet};
 ghost use Rattle.print.specs.Place.{Puts};
-use kernel::Kernels;
-use rules::ReadAnswer;
+// use kernel::Kernels;
+// use rules::ReadAnswer;
 use rules::Refusal;
 use rules::TableAnswer;
 use rules::WriteAnswer;
-use table::TABLE_MOST;
+// use table::TABLE_MOST;
 
 // The first line of a sheet that is written.
 const FIRST_LINE: [u8; 35] = *b"execution,deadline,period,release\r\n";
 
-// THE SHEET'S READER. The tasks of a sheet go to the start of table; the answer is how many they are.
-pub fn read_sheet(text: &[u8], table: &mut [u32]) -> ReadAnswer
-    ensures { λ r. ⌜ ReadsSheet (now (text .entry)) (now (table .entry)) r (now (table .exit)) ⌝ }
-{
-    let mut columns = [0usize; 4];
-    let mut after = text;
-    let count = header::read_header(text, &mut columns, &mut after);
-    if count == 0 {
-        return ReadAnswer::Refused(Refusal::NoHeader);
-    }
-    let mut words = [0u32; TABLE_MOST];
-    let kernels = kernel::read_kernels(after, &columns, count, &mut words);
-    let Kernels::Whole(n) = kernels else {
-        let Kernels::Wrong(l) = kernels else {
-            return ReadAnswer::Refused(Refusal::NoRecord);
-        };
-        return ReadAnswer::Refused(Refusal::BadRecord(l));
-    };
-    if n == 0 {
-        return ReadAnswer::Refused(Refusal::NoRecord);
-    }
-    if table.len() < 4 * n {
-        return ReadAnswer::Refused(Refusal::TooShort);
-    }
-    table::copy_words(&words, 4 * n, table);
-    ReadAnswer::Set(n as u32)
-}
+// // THE SHEET'S READER. The tasks of a sheet go to the start of table; the answer is how many they are.
+// pub fn read_sheet(text: &[u8], table: &mut [u32]) -> ReadAnswer
+//     ensures { λ r. ⌜ ReadsSheet (now (text .entry)) (now (table .entry)) r (now (table .exit)) ⌝ }
+// {
+//     let mut columns = [0usize; 4];
+//     let mut after = text;
+//     let count = header::read_header(text, &mut columns, &mut after);
+//     if count == 0 {
+//         return ReadAnswer::Refused(Refusal::NoHeader);
+//     }
+//     let mut words = [0u32; TABLE_MOST];
+//     let kernels = kernel::read_kernels(after, &columns, count, &mut words);
+//     let Kernels::Whole(n) = kernels else {
+//         let Kernels::Wrong(l) = kernels else {
+//             return ReadAnswer::Refused(Refusal::NoRecord);
+//         };
+//         return ReadAnswer::Refused(Refusal::BadRecord(l));
+//     };
+//     if n == 0 {
+//         return ReadAnswer::Refused(Refusal::NoRecord);
+//     }
+//     if table.len() < 4 * n {
+//         return ReadAnswer::Refused(Refusal::TooShort);
+//     }
+//     table::copy_words(&words, 4 * n, table);
+//     ReadAnswer::Set(n as u32)
+// }
 
 // A task's word is put at a place, with what stands after it: a comma, or the line end after the last.
 fn put_word(out: &mut [u8], at: usize, which: usize, n: u32) -> usize
@@ -58,6 +58,17 @@ fn put_word(out: &mut [u8], at: usize, which: usize, n: u32) -> usize
     print::put_bytes(out, after, b",")
 }
 
+// How long what stands after a task's word is.
+fn mark_length(which: usize) -> usize
+    requires { ⌜ which < 4 ⌝ }
+    ensures { λ r. ⌜ (r ≡ length (afterWord which)) × (r ≤ 2) ⌝ }
+{
+    if which == 3 {
+        return 2;
+    }
+    1
+}
+
 // How long the sheet of a table is.
 fn sheet_length(table: &[u32]) -> usize
     requires { ⌜ length (now table) ≤ tableMost ⌝ }
@@ -66,10 +77,7 @@ fn sheet_length(table: &[u32]) -> usize
     let mut total: usize = 35;
     let mut k: usize = 0;
     while k < table.len() {
-        total += print::width(table[k]) + 1;
-        if k % 4 == 3 {
-            total += 1;
-        }
+        total += print::width(table[k]) + mark_length(k % 4);
         k += 1;
     }
     total

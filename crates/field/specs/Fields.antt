@@ -8,14 +8,9 @@ use lib.Dec.{ltb}
 use lib.ListN.{length, take, drop}
 use Rattle.rules.specs.Choice.{if_then_else_}
 use Rattle.rules.specs.Sheet.{Field, content, noField, readPlain, readQuoted, readField, afterEnd, Step, more, last, noStep, nextField}
-use Rattle.rules.specs.Sheets.{doubled}
+use Rattle.rules.specs.Sheets.{standing, standingStep}
 use Rattle.field.specs.declared.Next.{Next}
 use Rattle.field.specs.declared.Next.the-variants.{More, Last, Wrong}
-
--- a field as it stands between its quotes: with each quote of its content doubled
-unfoldable pub standing : Field → Field
-standing (content c s) = content (doubled c) s
-standing noField = noField
 
 -- so many bytes stand before the first mark
 pub record Plain (s : List ℕ) (n : ℕ) : Type 0 where
@@ -47,12 +42,6 @@ ended false rest = none
 pub record Ends (s oldRest : List ℕ) (answer : Bool) (rest : List ℕ) : Type 0 where
   pub says : ended answer rest ≡ afterEnd s
   pub keeps : answer ≡ false → rest ≡ oldRest
-
--- the next field as it stands between its quotes
-unfoldable pub standingStep : Step → Step
-standingStep (more c s) = more (doubled c) s
-standingStep (last c s) = last (doubled c) s
-standingStep noStep = noStep
 
 -- the answer of a search for the next field, with the bytes found
 abbrev pub stepped : Next → List ℕ → List ℕ → Step

@@ -1,6 +1,6 @@
 // One field of a sheet, and what follows it: a comma, the end of the record, or neither.
 ghost use mathlib.Core.Path.{_≡_};
-ghost use Rattle.rules.specs.Sheet.{mark, readPlain, readQuoted, readField, afterEnd, nextField};
+ghost use Rattle.rules.specs.Sheet.{mark};
 ghost use Rattle.field.specs.Fields.{Plain, Quoted, Finds, Ends, Steps};
 
 const LF: u8 = 10;

@@ -12,4 +12,5 @@ pub mod CallForC
 mod Printing
 mod Seeded
 pub mod SetsDrawn
+pub mod Sheets
 pub mod Numbers

@@ -1,4 +1,4 @@
--- What the reader, the writer and the report give is exactly what the paper's tables have.
+-- What the reader, the writers and the report give is exactly what the paper's tables have.
 use mathlib.Core.Path.{_≡_, refl, sym, subst}
 use mathlib.Core.Logic.{_↔_}
 use mathlib.Core.Option.{Option, none, some}
@@ -9,15 +9,15 @@ use mathlib.Core.List.{List}
 use lib.ListN.{length}
 use Rattle.rules.specs.Table.{tableRefusal}
 use Rattle.rules.specs.Told.{Told, readTold, writeTold, reportTold}
-use Rattle.rules.specs.Text.{Lines, took, stop, readSet, writeSet}
-use Rattle.rules.specs.Answers.{readAnswer, readTable, readRest, writeAnswer, writeBuffer}
+use Rattle.rules.specs.Text.{Lines, took, stop, readSet}
+use Rattle.rules.specs.Answers.{readAnswer, readTable, readRest, makeAnswer, makeBuffer}
 use Rattle.rules.specs.Report.{setLines, reportAnswer, reportBuffer}
-use Rattle.rules.specs.Calls.{Reads, Writes, Reports}
+use Rattle.rules.specs.Calls.{Reads, Makes, Reports}
 use Rattle.rules.specs.declared.Refusal.{Refusal}
 use Rattle.rules.specs.declared.ReadAnswer.{ReadAnswer}
 use Rattle.rules.specs.declared.WriteAnswer.{WriteAnswer}
 use Rattle.rules.specs.declared.ReportAnswer.{ReportAnswer}
-use Rattle.rules.proofs.Calls.{read-stops, read-short, read-set, write-refused, write-short, write-text, report-short, report-lines}
+use Rattle.rules.proofs.Calls.{read-stops, read-short, read-set, write-refused, write-short, write-made, report-short, report-lines}
 use Rattle.promises.specs.Tables.{ReaderTells, WriterTells, ReportTells}
 use Rattle.promises.proofs.Exact.{along, exact, table-tells, told-table, fine-not, not-fine}
 
@@ -58,38 +58,38 @@ module _ (text table : List ℕ) where
     read-lines t rest exit,
   )
 
--- THE WRITER
-module _ (table out : List ℕ) where
-  write-given : {t : Told} {a : WriteAnswer} {exit : List ℕ} → writeTold a ≡ t → Writes table out a exit
-      → (writeTold (writeAnswer table out) ≡ t) × (writeBuffer table out ≡ exit)
+-- A WRITER
+module _ (make : List ℕ → List ℕ) (table out : List ℕ) where
+  write-given : {t : Told} {a : WriteAnswer} {exit : List ℕ} → writeTold a ≡ t → Makes make table out a exit
+      → (writeTold (makeAnswer make table out) ≡ t) × (makeBuffer make table out ≡ exit)
   write-given e c = (rw (← c .says) e, sym (c .leaves))
 
   abbrev Written : Type 0
-  Written = WriterTells table out (writeTold (writeAnswer table out)) (writeBuffer table out)
+  Written = WriterTells make table out (writeTold (makeAnswer make table out)) (makeBuffer make table out)
 
-  written : {a : WriteAnswer} {exit : List ℕ} → Writes table out a exit → WriterTells table out (writeTold a) exit → Written
+  written : {a : WriteAnswer} {exit : List ℕ} → Makes make table out a exit → WriterTells make table out (writeTold a) exit → Written
   written c h = rw (← c .says, ← c .leaves) h
 
   write-stands : Written
   write-stands = go (tableRefusal table) refl
     where
-      room : tableRefusal table ≡ none → Dec (length out < length (writeSet table)) → Written
+      room : tableRefusal table ≡ none → Dec (length out < length (make table)) → Written
       room e (yes h) = written (write-short table out e h) (WriterTells.six (not-fine table e) h)
       room e (no h) =
-          let k : length (writeSet table) ≤ length out = omega arith in
-          written (write-text table out e k) (WriterTells.text (not-fine table e) k)
+          let k : length (make table) ≤ length out = omega arith in
+          written (write-made table out e k) (WriterTells.made (not-fine table e) k)
 
       go : (o : Option Refusal) → tableRefusal table ≡ o → Written
       go (some r) e = written (write-refused table out r e) (WriterTells.refused (table-tells table r e))
-      go none e = room e (decLt (length out) (length (writeSet table)))
+      go none e = room e (decLt (length out) (length (make table)))
 
-  write-lines : (t : Told) (exit : List ℕ) → WriterTells table out t exit → (writeTold (writeAnswer table out) ≡ t) × (writeBuffer table out ≡ exit)
+  write-lines : (t : Told) (exit : List ℕ) → WriterTells make table out t exit → (writeTold (makeAnswer make table out) ≡ t) × (makeBuffer make table out ≡ exit)
   write-lines t exit (WriterTells.refused x) = let r = told-table table t x in write-given (r .2) (write-refused table out (r .0) (r .1))
   write-lines t exit (WriterTells.six f h) = write-given refl (write-short table out (fine-not table f) h)
-  write-lines t exit (WriterTells.text f h) = write-given refl (write-text table out (fine-not table f) h)
+  write-lines t exit (WriterTells.made f h) = write-given refl (write-made table out (fine-not table f) h)
 
-  pub writer-tells : (t : Told) (exit : List ℕ) → ((writeTold (writeAnswer table out) ≡ t) × (writeBuffer table out ≡ exit)) ↔ WriterTells table out t exit
-  writer-tells = exact (WriterTells table out) write-stands write-lines
+  pub writer-tells : (t : Told) (exit : List ℕ) → ((writeTold (makeAnswer make table out) ≡ t) × (makeBuffer make table out ≡ exit)) ↔ WriterTells make table out t exit
+  writer-tells = exact (WriterTells make table out) write-stands write-lines
 
 -- THE REPORT OF ONE SET
 module _ (n : ℕ) (text out : List ℕ) where

@@ -1,6 +1,6 @@
 -- The three demands on one page, over the definitions and the calls' contracts of rules/specs.
 use mathlib.Core.Path.{_≡_}
-use mathlib.Core.Logic.{_↔_}
+use mathlib.Core.Logic.{_↔_, _⊎_}
 use Prim.Native.Nat.{ℕ, suc, _+_, _-_, _*_, _/_, _%_, _≤_, _<_}
 use mathlib.Core.List.{List, [], _∷_, _++_, List·Memᴰ}
 use mathlib.Core.Bool.{true, false}
@@ -18,9 +18,10 @@ use Rattle.rules.specs.Jobs.{OnTrain, concrete, named}
 use Rattle.rules.specs.Legal.{Legal}
 use Rattle.rules.specs.Demand.{Due, Wait, fails, closes, blocker, Blocks, verdict}
 use Rattle.rules.specs.Text.{bytes, took, stop, readSet, writeSet}
-use Rattle.rules.specs.Answers.{readAnswer, readTable, readRest, writeAnswer, writeBuffer, scheduleAnswer, scheduleBuffer, verdictAnswer, patternAnswer, patternBuffer, firstAnswer, checkNumber}
+use Rattle.rules.specs.Sheet.{tasks, readSheet, writeSheet}
+use Rattle.rules.specs.Answers.{readAnswer, readTable, readRest, writeAnswer, writeBuffer, readSheetAnswer, readSheetTable, writeSheetAnswer, writeSheetBuffer, scheduleAnswer, scheduleBuffer, verdictAnswer, patternAnswer, patternBuffer, firstAnswer, checkNumber}
 use Rattle.rules.specs.Report.{reportAnswer, reportBuffer, output}
-use Rattle.rules.specs.Calls.{Reads, Writes, Schedules, Shows, Reports}
+use Rattle.rules.specs.Calls.{Reads, Writes, ReadsSheet, WritesSheet, Schedules, Shows, Reports}
 use Rattle.rules.specs.Generator.{setDrawn, wordsDrawn, stateAfterSet, stateAfterSets, generated, Draws, drawAnswer, drawState, drawTable, DrawsSet}
 use Rattle.rules.specs.declared.Refusal.{Refusal}
 use Rattle.rules.specs.declared.Verdict.{Verdict}
@@ -30,7 +31,7 @@ use Rattle.rules.specs.declared.ScheduleAnswer.{ScheduleAnswer}
 use Rattle.rules.specs.declared.VerdictAnswer.{VerdictAnswer}
 use Rattle.rules.specs.declared.PatternAnswer.{PatternAnswer}
 use Rattle.rules.specs.declared.ReportAnswer.{ReportAnswer}
-use Rattle.promises.specs.Tables.{Least, None, ReaderTells, WriterTells, ScheduleTells, JudgeTells, PatternTells, FirstTells, ReportTells, Run, SetTells}
+use Rattle.promises.specs.Tables.{Least, None, ReaderTells, WriterTells, ScheduleTells, JudgeTells, PatternTells, FirstTells, ReportTells, Run, SetTells, SheetTells}
 
 -- 1. ANY INPUT ENDS WELL. Any table, any text, any lent buffer gets an answer or a numbered refusal. A refusal changes no lent buffer.
 
@@ -51,16 +52,20 @@ pub record EndsWell : Type 0 where
   pub checking : (text : List ℕ) → One ℕ (λ o. o ≡ checkNumber text)
   pub drawing : (s : ℕ) → One (ℕ × ℕ) (λ o. Draws s (o .0) (o .1))
   pub drawing-set : (s number : ℕ) (table : List ℕ) → One (ReadAnswer × ℕ × List ℕ) (λ o. DrawsSet s number table (o .0) (o .1) (o .2))
+  pub reading-sheet : (sheet table : List ℕ) → One (ReadAnswer × List ℕ) (λ o. ReadsSheet sheet table (o .0) (o .1))
+  pub writing-sheet : (table out : List ℕ) → One (WriteAnswer × List ℕ) (λ o. WritesSheet table out (o .0) (o .1))
 
--- a refusal has a number from 1 to 15; each lent buffer and state at exit is what it was; the reader hands the whole text back
+-- a refusal has a number from 1 to 8 or from 13 to 15; each lent buffer and state at exit is what it was; the reader hands the whole text back
 pub record Untouched : Type 0 where
-  pub numbered : (r : Refusal) → (1 ≤ numberOf r) × (numberOf r ≤ 15)
+  pub numbered : (r : Refusal) → ((1 ≤ numberOf r) × (numberOf r ≤ 8)) ⊎ ((13 ≤ numberOf r) × (numberOf r ≤ 15))
   pub reading : (text table rest exit : List ℕ) (r : Refusal) → Reads text table (ReadAnswer.Refused r) rest exit → (rest ≡ text) × (exit ≡ table)
   pub writing : (table out exit : List ℕ) (r : Refusal) → Writes table out (WriteAnswer.Refused r) exit → exit ≡ out
   pub scheduling : (table out exit : List ℕ) (z : ℕ) (r : Refusal) → Schedules table z out (ScheduleAnswer.Refused r) exit → exit ≡ out
   pub showing : (table out exit : List ℕ) (r : Refusal) → Shows table out (PatternAnswer.Refused r) exit → exit ≡ out
   pub reporting : (number : ℕ) (text out exit : List ℕ) (r : Refusal) → Reports number text out (ReportAnswer.Refused r) exit → exit ≡ out
   pub drawing : (s number after : ℕ) (table exit : List ℕ) (r : Refusal) → DrawsSet s number table (ReadAnswer.Refused r) after exit → (after ≡ s) × (exit ≡ table)
+  pub reading-sheet : (sheet table exit : List ℕ) (r : Refusal) → ReadsSheet sheet table (ReadAnswer.Refused r) exit → exit ≡ table
+  pub writing-sheet : (table out exit : List ℕ) (r : Refusal) → WritesSheet table out (WriteAnswer.Refused r) exit → exit ≡ out
 
 -- 2. THE NUMBERS ARE THE PAPER'S. Rows, late job, verdict and text each equal a definition.
 
@@ -69,7 +74,7 @@ pub record PaperNumbers : Type 0 where
   pub reading : (text table : List ℕ) (t : Told) (rest exit : List ℕ)
       → ((readTold (readAnswer text table) ≡ t) × (readRest text table ≡ rest) × (readTable text table ≡ exit)) ↔ ReaderTells text table t rest exit
   pub writing : (table out : List ℕ) (t : Told) (exit : List ℕ)
-      → ((writeTold (writeAnswer table out) ≡ t) × (writeBuffer table out ≡ exit)) ↔ WriterTells table out t exit
+      → ((writeTold (writeAnswer table out) ≡ t) × (writeBuffer table out ≡ exit)) ↔ WriterTells writeSet table out t exit
   pub scheduling : (table : List ℕ) (z : ℕ) (out : List ℕ) (t : Told) (exit : List ℕ)
       → ((scheduleTold (scheduleAnswer table z out) ≡ t) × (scheduleBuffer table z out ≡ exit)) ↔ ScheduleTells table z out t exit
   pub judging : (table : List ℕ) (t : Told) → (verdictTold (verdictAnswer table) ≡ t) ↔ JudgeTells table t
@@ -83,6 +88,10 @@ pub record PaperNumbers : Type 0 where
   pub drawing : (s n after : ℕ) → Draws s n after ↔ ((after ≡ (1664525 * s + 1013904223) % 4294967296) × (n ≡ after / 65536))
   pub drawing-set : (s number : ℕ) (table : List ℕ) (t : Told) (after : ℕ) (exit : List ℕ)
       → ((readTold (drawAnswer s number table) ≡ t) × (drawState s number table ≡ after) × (drawTable s number table ≡ exit)) ↔ SetTells s number table t after exit
+  pub reading-sheet : (sheet table : List ℕ) (t : Told) (exit : List ℕ)
+      → ((readTold (readSheetAnswer sheet table) ≡ t) × (readSheetTable sheet table ≡ exit)) ↔ SheetTells sheet table t exit
+  pub writing-sheet : (table out : List ℕ) (t : Told) (exit : List ℕ)
+      → ((writeTold (writeSheetAnswer table out) ≡ t) × (writeSheetBuffer table out ≡ exit)) ↔ WriterTells writeSheet table out t exit
 
 -- the dispatcher: the rows of a legal pattern obey the rules of document 01, and whatever obeys them is these rows; the late job named is late,
 -- and no late job has a lesser deadline, or an equal one and a lower task
@@ -215,3 +224,19 @@ pub record SetsDrawn : Type 0 where
   pub no-text : (k s : ℕ) → generated 0 k s ≡ []
   pub read-in-turn : (n k s : ℕ) → readSet (generated (suc n) k s) ≡ took (wordsDrawn k s) (generated n (suc k) (stateAfterSet s))
   pub in-pieces : (m n k s : ℕ) → generated (m + n) k s ≡ generated m k s ++ generated n (k + m) (stateAfterSets m s)
+
+-- THE SHEETS. The sheet of the set (1,2,3) with R 0, byte for byte: the line of the names, then 1,2,3,0, each with CR LF
+abbrev pub SheetBytes : Type 0
+SheetBytes =
+    writeSheet (1 ∷ 2 ∷ 3 ∷ 0 ∷ [])
+    ≡ bytes "execution,deadline,period,release" ++ (13 ∷ 10 ∷ 49 ∷ 44 ∷ 50 ∷ 44 ∷ 51 ∷ 44 ∷ 48 ∷ 13 ∷ 10 ∷ [])
+
+-- a sheet that is written from a valid table reads back to it, whatever table it is read into; and the two formats agree: the text written from what it
+-- reads to is the text of the table. By the definitions, and of whatever meets the calls' contracts
+pub record SheetTrips : Type 0 where
+  pub sheet-then-table : (table : List ℕ) → tableRefusal table ≡ none → readSheet (writeSheet table) ≡ tasks table
+  pub written-is-read : (table out sheet : List ℕ) (n : ℕ) → WritesSheet table out (WriteAnswer.Written n) sheet
+      → (room : List ℕ) → length table ≤ length room → (answer : ReadAnswer) (exit : List ℕ) → ReadsSheet (take n sheet) room answer exit
+      → (answer ≡ ReadAnswer.Set (length table / 4)) × (exit ≡ table ++ drop (length table) room)
+  pub formats-agree : (table out sheet : List ℕ) (n : ℕ) → WritesSheet table out (WriteAnswer.Written n) sheet
+      → (room words : List ℕ) (k : ℕ) → ReadsSheet (take n sheet) room (ReadAnswer.Set k) words → writeSet (take (4 * k) words) ≡ writeSet table

@@ -1,5 +1,6 @@
 -- The paper's tables: of each call what it tells (a number with values) and what it leaves in each lent buffer. One definition a call, one line
--- a case, the numbers as figures, in the paper's order. Document 01, "Refusal numbers", "The verdict over all arrivals" and "Dispatch"; document 02, 1/14.
+-- a case, the numbers as figures, in the paper's order. Document 01, "Refusal numbers", "The verdict over all arrivals" and "Dispatch"; document 02, 1/14 and
+-- 2/14.
 use mathlib.Core.Path.{_≡_}
 use mathlib.Core.Logic.{_⊎_}
 use Prim.Native.Nat.{ℕ, suc, _+_, _*_, _/_, _%_, _≤_, _<_}
@@ -14,9 +15,10 @@ use Rattle.rules.specs.Dispatch.{Row, late, rowWords}
 use Rattle.rules.specs.Policy.{Obeys, NamedLate}
 use Rattle.rules.specs.Jobs.{concrete, named}
 use Rattle.rules.specs.Demand.{Wait, fails, closes, Blocks}
-use Rattle.rules.specs.Text.{bytes, digits, line, took, stop, readSet, writeSet}
+use Rattle.rules.specs.Text.{bytes, digits, line, took, stop, readSet}
 use Rattle.rules.specs.Report.{setLines, setRest}
 use Rattle.rules.specs.DrawnSets.{FromSeed}
+use Rattle.rules.specs.Sheets.{Header, Tasks, NotDue}
 
 -- x is the least number from 1 to H that passes a test
 abbrev pub Least : (ℕ → Bool) → ℕ → Type 0
@@ -41,12 +43,12 @@ pub data ReaderTells (text table : List ℕ) : Told → List ℕ → List ℕ �
   set : {ws after : List ℕ} → readSet text ≡ took ws after → length ws ≤ length table
       → ReaderTells text table (0 with (length ws / 4 ∷ [])) after (ws ++ drop (length ws) table)
 
--- THE WRITER: 1 to 4; 6 the buffer is shorter than the text; else 0 with the length, and the text at the start of the buffer
-pub data WriterTells (table out : List ℕ) : Told → List ℕ → Type 0 where
-  refused : {t : Told} → TableTells table t → WriterTells table out t out
-  six : Fine table → length out < length (writeSet table) → WriterTells table out (6 with []) out
-  text : Fine table → length (writeSet table) ≤ length out
-      → WriterTells table out (0 with (length (writeSet table) ∷ [])) (writeSet table ++ drop (length (writeSet table)) out)
+-- A WRITER of what is made of a table: 1 to 4; 6 the buffer is shorter than that; else 0 with its length, and it stands at the start of the buffer
+pub data WriterTells (make : List ℕ → List ℕ) (table out : List ℕ) : Told → List ℕ → Type 0 where
+  refused : {t : Told} → TableTells table t → WriterTells make table out t out
+  six : Fine table → length out < length (make table) → WriterTells make table out (6 with []) out
+  made : Fine table → length (make table) ≤ length out
+      → WriterTells make table out (0 with (length (make table) ∷ [])) (make table ++ drop (length (make table)) out)
 
 -- THE SCHEDULE: 1 to 4; 5 Z is 0 or above 100,000; 6 the buffer is shorter than the rows, which are those that obey the dispatcher's rules;
 -- else 200 on time with the row count, or 201 late with it and the task, job and deadline of the late job, and the rows at the start of the buffer
@@ -126,3 +128,14 @@ pub data SetTells (s number : ℕ) (table : List ℕ) : Told → ℕ → List �
   six : {ts : List Task} {after : ℕ} → FromSeed s number ts after → length table < 4 * length ts → SetTells s number table (6 with []) s table
   set : {ts : List Task} {after : ℕ} {ws : List ℕ} → FromSeed s number ts after → 4 * length ts ≤ length table → WordsFor ts ws
       → SetTells s number table (0 with (length ts ∷ [])) after (ws ++ drop (4 * length ts) table)
+
+-- THE SHEET'S READER: 13 no good header stands first; 14 a record after it is not as due or is a 65th, with the number of the first such record; 15 no
+-- record follows it; 6 the table is shorter than the tasks; else 0 with the task count, and their words at the start of the table
+pub data SheetTells (sheet table : List ℕ) : Told → List ℕ → Type 0 where
+  thirteen : ((hs : List (List ℕ)) (after : List ℕ) → Header sheet hs after → ⊥) → SheetTells sheet table (13 with []) table
+  fourteen : {hs : List (List ℕ)} {after : List ℕ} {l : ℕ} → Header sheet hs after → NotDue hs 2 after l → SheetTells sheet table (14 with (l ∷ [])) table
+  fifteen : {hs : List (List ℕ)} → Header sheet hs [] → SheetTells sheet table (15 with []) table
+  six : {hs : List (List ℕ)} {after ws : List ℕ} → Header sheet hs after → Tasks hs after ws → 0 < length ws → length ws ≤ 256 → length table < length ws
+      → SheetTells sheet table (6 with []) table
+  set : {hs : List (List ℕ)} {after ws : List ℕ} → Header sheet hs after → Tasks hs after ws → 0 < length ws → length ws ≤ 256 → length ws ≤ length table
+      → SheetTells sheet table (0 with (length ws / 4 ∷ [])) (ws ++ drop (length ws) table)

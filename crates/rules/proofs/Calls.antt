@@ -18,9 +18,9 @@ use Rattle.rules.specs.Jobs.{concrete, named}
 use Rattle.rules.specs.Demand.{verdict}
 use Rattle.rules.specs.Text.{took, stop, readSet, writeSet}
 use Rattle.rules.specs.Told.{numberTold, verdictTold}
-use Rattle.rules.specs.Answers.{readRefusal, readAnswer, readTable, readRest, writeRefusal, writeAnswer, writeBuffer, dispatchRefusal, timing, dispatchAnswer, dispatchBuffer, scheduleRefusal, scheduleAnswer, scheduleBuffer, verdictAnswer, isMisses, namedBy, rowsOf, patternRefusal, patternAnswer, patternBuffer, firstRefusal, firstAnswer, checkNumber}
+use Rattle.rules.specs.Answers.{readRefusal, readAnswer, readTable, readRest, makeRefusal, makeAnswer, makeBuffer, dispatchRefusal, timing, dispatchAnswer, dispatchBuffer, scheduleRefusal, scheduleAnswer, scheduleBuffer, verdictAnswer, isMisses, namedBy, rowsOf, patternRefusal, patternAnswer, patternBuffer, firstRefusal, firstAnswer, checkNumber}
 use Rattle.rules.specs.Report.{setLines, setRest, reportRefusal, reportAnswer, reportBuffer}
-use Rattle.rules.specs.Calls.{Reads, Writes, Dispatches, Schedules, Shows, Reports}
+use Rattle.rules.specs.Calls.{Reads, Makes, Dispatches, Schedules, Shows, Reports}
 use Rattle.rules.specs.declared.Refusal.{Refusal}
 use Rattle.rules.specs.declared.Refusal.the-variants.{BadEnd, TooShort, BadLine, NotMisses}
 use Rattle.rules.specs.declared.Blocker.{Blocker}
@@ -99,26 +99,26 @@ module _ (text table : List ℕ) where
       let s = le-ltb (length table) (length ws) h in
       record { says = rw (e, s); hands-back = rw (e, s); leaves = rw (e, s) }
 
--- THE WRITER
-module _ (table out : List ℕ) where
+-- A WRITER
+module _ {make : List ℕ → List ℕ} (table out : List ℕ) where
   -- 1 to 4: the table's
-  pub write-refused : (r : Refusal) → tableRefusal table ≡ some r → Writes table out (WriteAnswer.Refused r) out
-  unfolding writeRefusal writeAnswer writeBuffer
+  pub write-refused : (r : Refusal) → tableRefusal table ≡ some r → Makes make table out (WriteAnswer.Refused r) out
+  unfolding makeRefusal makeAnswer makeBuffer
   write-refused r e = record { says = rw e; leaves = rw e }
 
-  -- 6: the buffer is shorter than the text
-  pub write-short : tableRefusal table ≡ none → length out < length (writeSet table) → Writes table out (WriteAnswer.Refused TooShort) out
-  unfolding writeRefusal writeAnswer writeBuffer
+  -- 6: the buffer is shorter than what is made
+  pub write-short : tableRefusal table ≡ none → length out < length (make table) → Makes make table out (WriteAnswer.Refused TooShort) out
+  unfolding makeRefusal makeAnswer makeBuffer
   write-short e h =
-      let s = lt-ltb (length out) (length (writeSet table)) h in
+      let s = lt-ltb (length out) (length (make table)) h in
       record { says = rw (e, s); leaves = rw (e, s) }
 
-  -- the text
-  pub write-text : tableRefusal table ≡ none → length (writeSet table) ≤ length out
-      → Writes table out (WriteAnswer.Written (length (writeSet table))) (writeSet table ++ drop (length (writeSet table)) out)
-  unfolding writeRefusal writeAnswer writeBuffer
-  write-text e h =
-      let s = le-ltb (length out) (length (writeSet table)) h in
+  -- what is made
+  pub write-made : tableRefusal table ≡ none → length (make table) ≤ length out
+      → Makes make table out (WriteAnswer.Written (length (make table))) (make table ++ drop (length (make table)) out)
+  unfolding makeRefusal makeAnswer makeBuffer
+  write-made e h =
+      let s = le-ltb (length out) (length (make table)) h in
       record { says = rw (e, s); leaves = rw (e, s) }
 
 -- THE DISPATCHER

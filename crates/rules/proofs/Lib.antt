@@ -45,9 +45,15 @@ pub mod WriteSteps
 pub mod LineTrips
 pub mod SetTrips
 pub mod Reading
--- sheets, written and read
+-- sheets
+pub mod Records
+pub mod FieldSteps
+pub mod SheetGrammar
+pub mod SheetNames
+pub mod SheetRecords
+pub mod SheetReading
 pub mod SheetWriting
-pub mod SheetCalls
+pub mod SheetTrips
 -- the report and the program's output
 pub mod Printed
 pub mod Lengths

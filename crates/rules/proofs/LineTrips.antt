@@ -112,20 +112,22 @@ read-on (suc f) v s g p h l = choose (decLt v 10) (λ (q : 10 ≤ v). read-on f 
               ∙ ap (λ (x : ℕ). moreDigits (i .n - 1) x s) e;
         }
 
--- a number is read back where byte 10 follows
-pub number-there : (v : ℕ) (rest : List ℕ) → v < 100000 → readNumber (digits v ++ (10 ∷ rest)) ≡ got v (10 ∷ rest)
-number-there v rest h =
+-- a number is read back where it stops: of what follows no digit more is taken
+pub number-stops : (v : ℕ) (rest : List ℕ) → v < 100000 → ((n : ℕ) → moreDigits n v rest ≡ got v rest) → readNumber (digits v ++ rest) ≡ got v rest
+number-stops v rest h stops =
     elim (decLt v 1) [
-      | no a ↦
-          (let r = read-on 5 v (10 ∷ rest) (omega arith) (omega arith) (omega arith) h in
-          r .reads ∙ more-other v (10 ∷ rest) (omega arith) (r .n) (below-digits 10 (omega arith)))
+      | no a ↦ (let r = read-on 5 v rest (omega arith) (omega arith) (omega arith) h in r .reads ∙ stops (r .n))
       | yes a ↦
           (let z : v ≡ 0 = omega arith in
-          ap (λ (k : ℕ). readNumber (digits k ++ (10 ∷ rest))) z
-          ∙ ap (λ (l : List ℕ). readNumber (l ++ (10 ∷ rest))) (digits-one 0 (omega arith))
-          ∙ number-zero (48 ∷ 10 ∷ rest) (omega arith) refl
-          ∙ ap (λ (k : ℕ). got k (10 ∷ rest)) (sym z))
+          ap (λ (k : ℕ). readNumber (digits k ++ rest)) z
+          ∙ ap (λ (l : List ℕ). readNumber (l ++ rest)) (digits-one 0 (omega arith))
+          ∙ number-zero (48 ∷ rest) (omega arith) refl
+          ∙ ap (λ (k : ℕ). got k rest) (sym z))
     ]
+
+-- so where byte 10 follows
+pub number-there : (v : ℕ) (rest : List ℕ) → v < 100000 → readNumber (digits v ++ (10 ∷ rest)) ≡ got v (10 ∷ rest)
+number-there v rest h = number-stops v (10 ∷ rest) h (λ n. more-other v (10 ∷ rest) (omega arith) n (below-digits 10 (omega arith)))
 
 pub key-there : (key s : List ℕ) → afterKey key (key ++ s) ≡ some s
 unfolding afterKey

@@ -7,9 +7,9 @@ use mathlib.Core.Option.{Option, none, some}
 use lib.ListN.{length}
 use Rattle.rules.specs.Refusals.{answering, lent}
 use Rattle.rules.specs.Dispatch.{Job, lateJob}
-use Rattle.rules.specs.Answers.{readRefusal, readAnswer, readTable, readRest, writeRefusal, writeAnswer, writeBuffer, timing, scheduleRows, scheduleRefusal, scheduleAnswer, scheduleBuffer, patternRefusal, patternAnswer, patternBuffer}
+use Rattle.rules.specs.Answers.{readRefusal, readAnswer, readTable, readRest, makeRefusal, makeAnswer, makeBuffer, readSheetRefusal, readSheetAnswer, readSheetTable, timing, scheduleRows, scheduleRefusal, scheduleAnswer, scheduleBuffer, patternRefusal, patternAnswer, patternBuffer}
 use Rattle.rules.specs.Report.{reportRefusal, reportAnswer, reportBuffer}
-use Rattle.rules.specs.Calls.{Reads, Writes, Schedules, Shows, Reports}
+use Rattle.rules.specs.Calls.{Reads, Makes, ReadsSheet, Schedules, Shows, Reports}
 use Rattle.rules.specs.Generator.{drawRefusal, drawAnswer, drawState, drawTable, DrawsSet}
 use Rattle.rules.specs.declared.Refusal.{Refusal}
 use Rattle.rules.specs.declared.ReadAnswer.{ReadAnswer}
@@ -42,10 +42,10 @@ read-untouched text table rest exit r c = (
   as-it-was ReadAnswer.Refused _ (readRefusal text table) r _ table exit (λ e. let z : _≡_ {A = ℕ} 0 1 = cc in omega arith) (c .says) (c .leaves),
 )
 
-pub write-untouched : (table out exit : List ℕ) (r : Refusal) → Writes table out (WriteAnswer.Refused r) exit → exit ≡ out
-unfolding writeAnswer writeBuffer
-write-untouched table out exit r c =
-    as-it-was WriteAnswer.Refused _ (writeRefusal table out) r _ out exit (λ e. let z : _≡_ {A = ℕ} 0 1 = cc in omega arith) (c .says) (c .leaves)
+pub write-untouched : {make : List ℕ → List ℕ} (table out exit : List ℕ) (r : Refusal) → Makes make table out (WriteAnswer.Refused r) exit → exit ≡ out
+unfolding makeAnswer makeBuffer
+write-untouched {make} table out exit r c =
+    as-it-was WriteAnswer.Refused _ (makeRefusal make table out) r _ out exit (λ e. let z : _≡_ {A = ℕ} 0 1 = cc in omega arith) (c .says) (c .leaves)
 
 pub schedule-untouched : (table out exit : List ℕ) (z : ℕ) (r : Refusal) → Schedules table z out (ScheduleAnswer.Refused r) exit → exit ≡ out
 unfolding scheduleAnswer scheduleBuffer
@@ -69,3 +69,8 @@ draw-untouched s number after table exit r c = (
   as-before (drawRefusal s number table) r _ s _ after (c .says) (c .moves),
   as-it-was ReadAnswer.Refused _ (drawRefusal s number table) r _ table exit (λ e. let z : _≡_ {A = ℕ} 0 1 = cc in omega arith) (c .says) (c .leaves),
 )
+
+pub sheet-untouched : (sheet table exit : List ℕ) (r : Refusal) → ReadsSheet sheet table (ReadAnswer.Refused r) exit → exit ≡ table
+unfolding readSheetAnswer readSheetTable
+sheet-untouched sheet table exit r c =
+    as-it-was ReadAnswer.Refused _ (readSheetRefusal sheet table) r _ table exit (λ e. let z : _≡_ {A = ℕ} 0 1 = cc in omega arith) (c .says) (c .leaves)

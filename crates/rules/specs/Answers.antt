@@ -46,17 +46,24 @@ readTable text table = lent (readRefusal text table) (wordsRead (readSet text)) 
 unfoldable pub readRest : List ℕ → List ℕ → List ℕ
 readRest text table = answering (readRefusal text table) (λ r. text) (restRead (readSet text))
 
--- THE WRITER. Refusals 1, 2, 3, 4, 6
-unfoldable pub writeRefusal : List ℕ → List ℕ → Option Refusal
-writeRefusal table out = firstOf (tableRefusal table ∷ (TooShort when ltb (length out) (length (writeSet table))) ∷ [])
+-- A WRITER of bytes that are made of a table. Refusals 1, 2, 3, 4, 6
+unfoldable pub makeRefusal : (List ℕ → List ℕ) → List ℕ → List ℕ → Option Refusal
+makeRefusal make table out = firstOf (tableRefusal table ∷ (TooShort when ltb (length out) (length (make table))) ∷ [])
 
--- it answers the length of the text
-unfoldable pub writeAnswer : List ℕ → List ℕ → WriteAnswer
-writeAnswer table out = answering (writeRefusal table out) WriteAnswer.Refused (WriteAnswer.Written (length (writeSet table)))
+-- it answers their length
+unfoldable pub makeAnswer : (List ℕ → List ℕ) → List ℕ → List ℕ → WriteAnswer
+makeAnswer make table out = answering (makeRefusal make table out) WriteAnswer.Refused (WriteAnswer.Written (length (make table)))
 
--- and writes the text to the start of the lent buffer
-unfoldable pub writeBuffer : List ℕ → List ℕ → List ℕ
-writeBuffer table out = lent (writeRefusal table out) (writeSet table) out
+-- and writes them to the start of the lent buffer
+unfoldable pub makeBuffer : (List ℕ → List ℕ) → List ℕ → List ℕ → List ℕ
+makeBuffer make table out = lent (makeRefusal make table out) (make table) out
+
+-- THE WRITER makes the text of a set
+abbrev pub writeAnswer : List ℕ → List ℕ → WriteAnswer
+writeAnswer = makeAnswer writeSet
+
+abbrev pub writeBuffer : List ℕ → List ℕ → List ℕ
+writeBuffer = makeBuffer writeSet
 
 -- THE SHEET'S READER. Refusals 13, 14 with the number of the first record that is not as due, 15
 abbrev pub recordRefusal : Sheet → Option Refusal
@@ -79,18 +86,12 @@ readSheetAnswer sheet table =
 unfoldable pub readSheetTable : List ℕ → List ℕ → List ℕ
 readSheetTable sheet table = lent (readSheetRefusal sheet table) (sheetWords (readSheet sheet)) table
 
--- THE SHEET'S WRITER. Refusals 1, 2, 3, 4, 6
-unfoldable pub writeSheetRefusal : List ℕ → List ℕ → Option Refusal
-writeSheetRefusal table out = firstOf (tableRefusal table ∷ (TooShort when ltb (length out) (length (writeSheet table))) ∷ [])
+-- THE SHEET'S WRITER makes a sheet
+abbrev pub writeSheetAnswer : List ℕ → List ℕ → WriteAnswer
+writeSheetAnswer = makeAnswer writeSheet
 
--- it answers the length of the sheet
-unfoldable pub writeSheetAnswer : List ℕ → List ℕ → WriteAnswer
-writeSheetAnswer table out =
-    answering (writeSheetRefusal table out) WriteAnswer.Refused (WriteAnswer.Written (length (writeSheet table)))
-
--- and writes the sheet to the start of the lent buffer
-unfoldable pub writeSheetBuffer : List ℕ → List ℕ → List ℕ
-writeSheetBuffer table out = lent (writeSheetRefusal table out) (writeSheet table) out
+abbrev pub writeSheetBuffer : List ℕ → List ℕ → List ℕ
+writeSheetBuffer = makeBuffer writeSheet
 
 -- THE DISPATCHER, of any jobs. Refusal 6
 unfoldable pub dispatchRefusal : List Job → List ℕ → Option Refusal

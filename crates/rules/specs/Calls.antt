@@ -3,7 +3,9 @@ use mathlib.Core.Path.{_≡_}
 use Prim.Native.Nat.{ℕ}
 use mathlib.Core.List.{List}
 use Rattle.rules.specs.Dispatch.{Job}
-use Rattle.rules.specs.Answers.{readAnswer, readTable, readRest, writeAnswer, writeBuffer, readSheetAnswer, readSheetTable, writeSheetAnswer, writeSheetBuffer, dispatchAnswer, dispatchBuffer, scheduleAnswer, scheduleBuffer, patternAnswer, patternBuffer}
+use Rattle.rules.specs.Text.{writeSet}
+use Rattle.rules.specs.Sheet.{writeSheet}
+use Rattle.rules.specs.Answers.{readAnswer, readTable, readRest, makeAnswer, makeBuffer, readSheetAnswer, readSheetTable, dispatchAnswer, dispatchBuffer, scheduleAnswer, scheduleBuffer, patternAnswer, patternBuffer}
 use Rattle.rules.specs.Report.{reportAnswer, reportBuffer}
 use Rattle.rules.specs.declared.ReadAnswer.{ReadAnswer}
 use Rattle.rules.specs.declared.WriteAnswer.{WriteAnswer}
@@ -17,20 +19,23 @@ pub record Reads (text table : List ℕ) (answer : ReadAnswer) (rest exit : List
   pub hands-back : rest ≡ readRest text table
   pub leaves : exit ≡ readTable text table
 
--- the writer: its answer and the lent bytes
-pub record Writes (table out : List ℕ) (answer : WriteAnswer) (exit : List ℕ) : Type 0 where
-  pub says : answer ≡ writeAnswer table out
-  pub leaves : exit ≡ writeBuffer table out
+-- a writer of what is made of a table: its answer and the lent bytes
+pub record Makes (make : List ℕ → List ℕ) (table out : List ℕ) (answer : WriteAnswer) (exit : List ℕ) : Type 0 where
+  pub says : answer ≡ makeAnswer make table out
+  pub leaves : exit ≡ makeBuffer make table out
+
+-- the writer, of texts
+abbrev pub Writes : List ℕ → List ℕ → WriteAnswer → List ℕ → Type 0
+Writes = Makes writeSet
 
 -- the sheet's reader: its answer and the lent table
 pub record ReadsSheet (sheet table : List ℕ) (answer : ReadAnswer) (exit : List ℕ) : Type 0 where
   pub says : answer ≡ readSheetAnswer sheet table
   pub leaves : exit ≡ readSheetTable sheet table
 
--- the sheet's writer: its answer and the lent bytes
-pub record WritesSheet (table out : List ℕ) (answer : WriteAnswer) (exit : List ℕ) : Type 0 where
-  pub says : answer ≡ writeSheetAnswer table out
-  pub leaves : exit ≡ writeSheetBuffer table out
+-- the sheet's writer
+abbrev pub WritesSheet : List ℕ → List ℕ → WriteAnswer → List ℕ → Type 0
+WritesSheet = Makes writeSheet
 
 -- the dispatcher, of any jobs: its answer and the lent rows
 pub record Dispatches (js : List Job) (out : List ℕ) (answer : ScheduleAnswer) (exit : List ℕ) : Type 0 where

@@ -10,7 +10,7 @@ use Rattle.rules.specs.Generator.{countDrawn, wordsDrawn, DrawsSet}
 use Rattle.rules.specs.Calls.{Writes}
 use Rattle.rules.specs.declared.ReadAnswer.{ReadAnswer}
 use Rattle.rules.specs.declared.WriteAnswer.{WriteAnswer}
-use Rattle.rules.proofs.Calls.{write-text}
+use Rattle.rules.proofs.Calls.{write-made}
 use Rattle.rules.proofs.Drawn.{count-high}
 use Rattle.rules.proofs.DrawnFine.{drawn-fine}
 use Rattle.rules.proofs.DrawnTexts.{text-length, draw-answers, draw-moves, draw-words}
@@ -34,7 +34,7 @@ module _ {s number : ℕ} {table : List ℕ} {drawn : ReadAnswer} {after : ℕ} 
     set-written = rw (draw-words room draws (4 * n) (ap (λ (k : ℕ). 4 * k) count-is)) at writes
 
     due : Writes (wordsDrawn number s) out (WriteAnswer.Written (length text)) (text ++ drop (length text) out)
-    due = write-text (wordsDrawn number s) out (drawn-fine number s) (omega (arith, text-length number s))
+    due = write-made (wordsDrawn number s) out (drawn-fine number s) (omega (arith, text-length number s))
 
     pub write-answers : written ≡ WriteAnswer.Written (length text)
     write-answers = set-written .says ∙ sym (due .says)

@@ -6,10 +6,10 @@ use native.Mathlib.Omega.{arith}
 use mathlib.Core.Option.{none}
 use lib.ListN.{length}
 use Rattle.rules.specs.Numbers.{tableMost}
+use Rattle.rules.specs.Sheet.{writeSheet}
 use Rattle.rules.specs.Table.{tableRefusal}
 use Rattle.rules.specs.declared.WriteAnswer.{WriteAnswer}
-use Rattle.rules.proofs.Calls.{refused-by, not-refused, few-words}
-use Rattle.rules.proofs.SheetCalls.{sheet-refused, sheet-no-room, sheet-written}
+use Rattle.rules.proofs.Calls.{refused-by, not-refused, few-words, write-refused, write-short, write-made}
 use borrow.Author.Needs.{needs}
 use Rattle.sheet.proofs.write_sheet.Statement.{statement}
 use Rattle.sheet.proofs.write_sheet.Tie as tie
@@ -31,7 +31,7 @@ enum-known-checked c = search needs
 returns : tie.Need-returns
 returns c =
     let refusal = c .before .checked .given in
-    sheet-refused _ _ (refusal .0 .0) (refused-by _ _ (c .before .before .before .check-table .ensures) (refusal .1))
+    write-refused _ _ (refusal .0 .0) (refused-by _ _ (c .before .before .before .check-table .ensures) (refusal .1))
 
 enum-told : tie.Need-enum-told
 enum-told c = search needs
@@ -45,7 +45,7 @@ returns-2 c =
     let is-table = c .before .before in
     let args = is-table .before .before .before .before .before .args in
     let long = c .before .sheet-length .ensures .0 in
-    sheet-no-room (args .table .now) (args .out .now) (fine is-table) (omega arith)
+    write-short (args .table .now) (args .out .now) (fine is-table) (omega arith)
 
 put-sheet-requires : tie.Need-put-sheet-requires
 put-sheet-requires c κs =
@@ -66,7 +66,7 @@ returns-3 c =
     let is-table = has-room .before .before in
     let args = is-table .before .before .before .before .before .args in
     let long = has-room .before .sheet-length .ensures .0 in
-    let outcome = sheet-written (args .table .now) (args .out .now) (fine is-table) (omega (arith, has-room .if1 .left)) in
+    let outcome = write-made {make = writeSheet} (args .table .now) (args .out .now) (fine is-table) (omega (arith, has-room .if1 .left)) in
     record { says = ap WriteAnswer.Written long ∙ outcome .says; leaves = c .before .before .put-sheet .ensures ∙ outcome .leaves }
 
 pub write-sheet-spec : {M : Type 1} → statement M

@@ -6,9 +6,10 @@ use native.Mathlib.Omega.{arith}
 use mathlib.Core.Option.{none}
 use lib.ListN.{length}
 use Rattle.rules.specs.Numbers.{tableMost}
+use Rattle.rules.specs.Text.{writeSet}
 use Rattle.rules.specs.Table.{tableRefusal}
 use Rattle.rules.specs.declared.WriteAnswer.{WriteAnswer}
-use Rattle.rules.proofs.Calls.{refused-by, not-refused, few-words, write-refused, write-short, write-text}
+use Rattle.rules.proofs.Calls.{refused-by, not-refused, few-words, write-refused, write-short, write-made}
 use borrow.Author.Needs.{needs}
 use Rattle.writer.proofs.write.Statement.{statement}
 use Rattle.writer.proofs.write.Tie as tie
@@ -66,7 +67,7 @@ returns-3 c =
     let is-table = has-room .before .before in
     let args = is-table .before .before .before .before .before .args in
     let long = has-room .before .text-length .ensures .0 in
-    let outcome = write-text (args .table .now) (args .out .now) (fine is-table) (omega (arith, has-room .if1 .left)) in
+    let outcome = write-made {make = writeSet} (args .table .now) (args .out .now) (fine is-table) (omega (arith, has-room .if1 .left)) in
     record { says = ap WriteAnswer.Written long ∙ outcome .says; leaves = c .before .before .put-set .ensures ∙ outcome .leaves }
 
 pub write-spec : {M : Type 1} → statement M

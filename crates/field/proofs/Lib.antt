@@ -1,0 +1,2 @@
+-- Laws for the code that reads one field.
+pub mod Fields

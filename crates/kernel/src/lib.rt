@@ -1,6 +1,5 @@
 // The records after a sheet's header: of each a kernel's four numbers, by the columns that have the names.
 ghost use mathlib.Core.Path.{_≡_};
-ghost use Prim.Native.Nat.{_≤_};
 ghost use lib.ListN.{length};
 ghost use Rattle.rules.specs.Numbers.{tableMost};
 ghost use Rattle.rules.specs.Sheet.{fieldNumber};

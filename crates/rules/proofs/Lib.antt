@@ -48,12 +48,14 @@ pub mod Reading
 -- sheets
 pub mod Records
 pub mod FieldSteps
+pub mod RowSteps
 pub mod SheetGrammar
 pub mod SheetNames
 pub mod SheetRecords
 pub mod SheetReading
 pub mod SheetWriting
 pub mod SheetTrips
+pub mod HeaderSteps
 -- the report and the program's output
 pub mod Printed
 pub mod Lengths

@@ -6,45 +6,45 @@ ghost use lib.ListN.{length, drop};
 ghost use Rattle.rules.specs.Numbers.{tableMost};
 ghost use Rattle.rules.specs.Text.{digits};
 ghost use Rattle.rules.specs.Sheet.{afterWord, writeSheet};
-ghost use Rattle.rules.specs.Calls.{WritesSheet};
+ghost use Rattle.rules.specs.Calls.{ReadsSheet, WritesSheet};
 ghost use Rattle.print.specs.Place.{Puts};
-// use kernel::Kernels;
-// use rules::ReadAnswer;
+use kernel::Kernels;
+use rules::ReadAnswer;
 use rules::Refusal;
 use rules::TableAnswer;
 use rules::WriteAnswer;
-// use table::TABLE_MOST;
+use table::TABLE_MOST;
 
 // The first line of a sheet that is written.
 const FIRST_LINE: [u8; 35] = *b"execution,deadline,period,release\r\n";
 
-// // THE SHEET'S READER. The tasks of a sheet go to the start of table; the answer is how many they are.
-// pub fn read_sheet(text: &[u8], table: &mut [u32]) -> ReadAnswer
-//     ensures { λ r. ⌜ ReadsSheet (now (text .entry)) (now (table .entry)) r (now (table .exit)) ⌝ }
-// {
-//     let mut columns = [0usize; 4];
-//     let mut after = text;
-//     let count = header::read_header(text, &mut columns, &mut after);
-//     if count == 0 {
-//         return ReadAnswer::Refused(Refusal::NoHeader);
-//     }
-//     let mut words = [0u32; TABLE_MOST];
-//     let kernels = kernel::read_kernels(after, &columns, count, &mut words);
-//     let Kernels::Whole(n) = kernels else {
-//         let Kernels::Wrong(l) = kernels else {
-//             return ReadAnswer::Refused(Refusal::NoRecord);
-//         };
-//         return ReadAnswer::Refused(Refusal::BadRecord(l));
-//     };
-//     if n == 0 {
-//         return ReadAnswer::Refused(Refusal::NoRecord);
-//     }
-//     if table.len() < 4 * n {
-//         return ReadAnswer::Refused(Refusal::TooShort);
-//     }
-//     table::copy_words(&words, 4 * n, table);
-//     ReadAnswer::Set(n as u32)
-// }
+// THE SHEET'S READER. The tasks of a sheet go to the start of table; the answer is how many they are.
+pub fn read_sheet(text: &[u8], table: &mut [u32]) -> ReadAnswer
+    ensures { λ r. ⌜ ReadsSheet (now (text .entry)) (now (table .entry)) r (now (table .exit)) ⌝ }
+{
+    let mut columns = [0usize; 4];
+    let mut after = text;
+    let count = header::read_header(text, &mut columns, &mut after);
+    if count == 0 {
+        return ReadAnswer::Refused(Refusal::NoHeader);
+    }
+    let mut words = [0u32; TABLE_MOST];
+    let kernels = kernel::read_kernels(after, &columns, count, &mut words);
+    match kernels {
+        Kernels::Wrong(l) => ReadAnswer::Refused(Refusal::BadRecord(l)),
+        Kernels::Whole(n) => {
+            if n == 0 {
+                return ReadAnswer::Refused(Refusal::NoRecord);
+            }
+            let m = 4 * n;
+            if table.len() < m {
+                return ReadAnswer::Refused(Refusal::TooShort);
+            }
+            table::copy_words(&words, m, table);
+            ReadAnswer::Set(n as u32)
+        }
+    }
+}
 
 // A task's word is put at a place, with what stands after it: a comma, or the line end after the last.
 fn put_word(out: &mut [u8], at: usize, which: usize, n: u32) -> usize

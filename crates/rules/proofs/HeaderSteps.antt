@@ -140,6 +140,10 @@ module _ (hs : List (List ℕ)) where
   columns-at (suc (suc (suc zero))) h = refl
   columns-at (suc (suc (suc (suc k)))) h = absurd (omega arith)
 
+  pub columns-four : length (columnsOf hs) ≡ 4
+  unfolding columnsOf
+  columns-four = refl
+
   pub columns-are : (columns : List ℕ) → length columns ≡ 4 → ((k : ℕ) → k < 4 → getD columns k 0 ≡ columnFrom 1 (nameOf k) hs) → columns ≡ columnsOf hs
   unfolding columnsOf
   columns-are columns four each = ext-getD 0 columns (columnsOf hs) four (λ k h. each k (omega arith) ∙ sym (columns-at k (omega arith)))

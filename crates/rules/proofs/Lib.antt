@@ -53,6 +53,7 @@ pub mod SheetGrammar
 pub mod SheetNames
 pub mod SheetRecords
 pub mod SheetReading
+pub mod SheetWriting
 pub mod SheetTrips
 pub mod HeaderSteps
 -- the report and the program's output

@@ -1,6 +1,6 @@
 // Each answer told as a number with values, in code; rules/specs/Told.antt has the same as definitions. For the probe.
 ghost use mathlib.Core.Path.{_≡_};
-ghost use Rattle.rules.specs.Told.{refusalTold, writeTold, scheduleTold, patternTold};
+ghost use Rattle.rules.specs.Told.{refusalTold, readTold, writeTold, scheduleTold, patternTold};
 ghost use Rattle.told.specs.Sayings.{said, readProbed, missesProbed, verdictProbed, drawProbed, setProbed};
 use rules::Blocker;
 use rules::Carried;
@@ -54,6 +54,16 @@ pub fn say_write(answer: WriteAnswer) -> Saying
     match answer {
         WriteAnswer::Written(n) => Saying::One(0, n as u64),
         WriteAnswer::Refused(r) => say_refusal(r),
+    }
+}
+
+// The answer of the sheet's reader.
+pub fn say_sheet(answer: ReadAnswer) -> Saying
+    ensures { λ s. ⌜ said s ≡ readTold answer ⌝ }
+{
+    match answer {
+        ReadAnswer::Set(n) => Saying::One(0, n as u64),
+        ReadAnswer::Refused(r) => say_refusal(r),
     }
 }
 

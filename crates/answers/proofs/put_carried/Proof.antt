@@ -26,6 +26,17 @@ put-line-requires-2 c κs =
     let at-line = c .before .before .before in
     rw (at-line .carried2 .given .1) at (at-line .before .before .before .pre)
 
+enum-known-carried-3 : tie.Need-enum-known-carried-3
+enum-known-carried-3 c = search needs
+
+slice-aggregate-put-line-3 : tie.Need-slice-aggregate-put-line-3
+slice-aggregate-put-line-3 c = search needs
+
+put-line-requires-3 : tie.Need-put-line-requires-3
+put-line-requires-3 c κs =
+    let at-record = c .before .before .before in
+    rw (at-record .carried3 .given .1) at (at-record .before .before .before .pre)
+
 enum-told : tie.Need-enum-told
 enum-told c = search needs
 
@@ -45,8 +56,16 @@ returns-2 c =
     let after-put = c .before .before in
     rw (after-put .before .before .before .before .carried2 .given .1) (after-put .put-line2 .ensures)
 
+same-length-3 : tie.Need-same-length-3
+same-length-3 c = search needs
+
 returns-3 : tie.Need-returns-3
-returns-3 c = rw (c .enum-told .given .1) (nothing _ _)
+returns-3 c =
+    let after-put = c .before .before in
+    rw (after-put .before .before .before .before .carried3 .given .1) (after-put .put-line3 .ensures)
+
+returns-4 : tie.Need-returns-4
+returns-4 c = rw (c .enum-told .given .1) (nothing _ _)
 
 pub put-carried-spec : {M : Type 1} → statement M
 put-carried-spec =
@@ -58,9 +77,14 @@ put-carried-spec =
     enum-known-carried-2
     slice-aggregate-put-line-2
     put-line-requires-2
+    enum-known-carried-3
+    slice-aggregate-put-line-3
+    put-line-requires-3
     enum-told
     same-length
     returns
     same-length-2
     returns-2
-    returns-3)
+    same-length-3
+    returns-3
+    returns-4)

@@ -1,4 +1,4 @@
--- `numbers::refusal_carries` answers what the table of refusals says: the two cases that carry something by their entry, the others
+-- `numbers::refusal_carries` answers what the table of refusals says: the three cases that carry something by their entry, the others
 -- because none of them does.
 use borrow.Author.Needs.{needs}
 use Rattle.numbers.proofs.Carries.{carries-nothing}
@@ -11,6 +11,9 @@ enum-known-r c = search needs
 enum-known-r-2 : tie.Need-enum-known-r-2
 enum-known-r-2 c = search needs
 
+enum-known-r-3 : tie.Need-enum-known-r-3
+enum-known-r-3 c = search needs
+
 -- the index of a word
 returns : tie.Need-returns
 returns c = rw (c .before .r .given .1)
@@ -19,9 +22,15 @@ returns c = rw (c .before .r .given .1)
 returns-2 : tie.Need-returns-2
 returns-2 c = rw (c .before .r2 .given .1)
 
--- nothing
+-- the number of a record
 returns-3 : tie.Need-returns-3
-returns-3 c = carries-nothing (c .before .args .r) (c .match .keys3)
+returns-3 c = rw (c .before .r3 .given .1)
+
+-- nothing
+returns-4 : tie.Need-returns-4
+returns-4 c = carries-nothing (c .before .args .r) (c .match .keys4)
 
 pub refusal-carries-spec : {M : Type 1} → statement M
-refusal-carries-spec = tie.close (tie.spec enum-known-r enum-known-r-2 returns returns-2 returns-3)
+refusal-carries-spec =
+    tie.close
+    (tie.spec enum-known-r enum-known-r-2 enum-known-r-3 returns returns-2 returns-3 returns-4)

@@ -17,14 +17,20 @@ enum-told c = search needs
 enum-known-carried : tie.Need-enum-known-carried
 enum-known-carried c = search needs
 
-cast-t7 : tie.Need-cast-t7
-cast-t7 c = search needs
+cast-t8 : tie.Need-cast-t8
+cast-t8 c = search needs
 
 enum-known-carried-2 : tie.Need-enum-known-carried-2
 enum-known-carried-2 c = search needs
 
-cast-t8 : tie.Need-cast-t8
-cast-t8 c = search needs
+cast-t9 : tie.Need-cast-t9
+cast-t9 c = search needs
+
+enum-known-carried-3 : tie.Need-enum-known-carried-3
+enum-known-carried-3 c = search needs
+
+cast-t10 : tie.Need-cast-t10
+cast-t10 c = search needs
 
 returns : tie.Need-returns
 returns c =
@@ -43,6 +49,12 @@ returns-3 c =
     let after-number = at-line .before .before .before in
     refusal-so (after-number .before .args .r) (Carried.Line _) (after-number .refusal-number .ensures) (at-line .before .before .refusal-carries .ensures) (at-line .carried2 .given .1)
 
+returns-4 : tie.Need-returns-4
+returns-4 c =
+    let at-record = c .before in
+    let after-number = at-record .before .before .before in
+    refusal-so (after-number .before .args .r) (Carried.Record _) (after-number .refusal-number .ensures) (at-record .before .before .refusal-carries .ensures) (at-record .carried3 .given .1)
+
 pub say-refusal-spec : {M : Type 1} → statement M
 say-refusal-spec =
     tie.close
@@ -51,9 +63,12 @@ say-refusal-spec =
     refusal-carries-requires
     enum-told
     enum-known-carried
-    cast-t7
-    enum-known-carried-2
     cast-t8
+    enum-known-carried-2
+    cast-t9
+    enum-known-carried-3
+    cast-t10
     returns
     returns-2
-    returns-3)
+    returns-3
+    returns-4)

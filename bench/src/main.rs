@@ -46,6 +46,8 @@ fn all(pace_for: fn(Pace) -> Pace) {
     for set in sets::for_text() {
         report::line(&reader(&set, many));
         report::line(&writer(&set, many));
+        report::line(&sheet_reader(&set, many));
+        report::line(&sheet_writer(&set, many));
     }
 }
 
@@ -104,4 +106,33 @@ fn writer(set: &Set, pace: Pace) -> Line {
     let times = measure(pace, &mut [0; 4096], |text| text.fill(0), ours, theirs);
     let length = oracle::writer::set_text(table).len();
     Line { call: "writer", set: set.name, bytes: Some(length), times }
+}
+
+fn sheet_reader(set: &Set, pace: Pace) -> Line {
+    let sheet = oracle::sheet::sheet_of(&set.table);
+    let ours = |table: &mut [u32; 256]| {
+        let mut out = [0; LEAST_OUT];
+        boundary::sheet_read(black_box(&sheet), table, &mut out);
+        out[0]
+    };
+    let theirs = |table: &mut [u32; 256]| {
+        oracle::read_sheet(black_box(&sheet), table).map_or(0, |tasks| tasks as u64)
+    };
+    let times = measure(pace, &mut [0; 256], |table| table.fill(0), ours, theirs);
+    Line { call: "sheet reader", set: set.name, bytes: Some(sheet.len()), times }
+}
+
+fn sheet_writer(set: &Set, pace: Pace) -> Line {
+    let table = &set.table;
+    let ours = |sheet: &mut [u8; 4096]| {
+        let mut out = [0; LEAST_OUT];
+        boundary::sheet_write(black_box(table), sheet, &mut out);
+        out[0]
+    };
+    let theirs = |sheet: &mut [u8; 4096]| {
+        oracle::write_sheet(black_box(table), sheet).map_or(0, |length| length as u64)
+    };
+    let times = measure(pace, &mut [0; 4096], |sheet| sheet.fill(0), ours, theirs);
+    let length = oracle::sheet::sheet_of(table).len();
+    Line { call: "sheet writer", set: set.name, bytes: Some(length), times }
 }

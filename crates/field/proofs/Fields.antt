@@ -9,18 +9,24 @@ use lib.ListN.{length, take, drop}
 use borrow.Author.Tests.{lt-ltb, le-ltb}
 use Rattle.rules.specs.Sheet.{content, noField, readQuoted, readField, afterEnd, last, noStep, lastOf, nextField}
 use Rattle.rules.specs.Sheets.{standing, standingStep}
-use Rattle.rules.proofs.FieldSteps.{last-none, last-some, next-none}
+use Rattle.rules.proofs.FieldSteps.{impossible, last-none, last-some, next-none}
 use Rattle.field.specs.Fields.{Quoted, found, ended, stepped, StepsOne}
 use Rattle.field.specs.declared.Next.{Next}
 use Rattle.field.specs.declared.Next.the-variants.{More, Last, Wrong}
 
--- a quoted field, by the length that was found
-module _ (s : List ℕ) (n : ℕ) (q : Quoted s n) where
-  pub closed : n < length s → standing (readQuoted s) ≡ content (take n s) (drop (n + 1) s)
-  closed h = rw add-one (rw (lt-ltb n (length s) h) at (q .says))
+-- a quoted field and its length: it is closed there, or there is no more
+module _ (s : List ℕ) (n : ℕ) where
+  pub closes : n < length s → standing (readQuoted s) ≡ content (take n s) (drop (n + 1) s) → Quoted s n
+  closes h e = record { within = omega arith; says = rw (lt-ltb n (length s) h, ← add-one n) e }
 
-  pub unclosed : length s ≤ n → standing (readQuoted s) ≡ noField
-  unclosed h = rw (le-ltb n (length s) h) at (q .says)
+  pub stays-open : n ≤ length s → length s ≤ n → standing (readQuoted s) ≡ noField → Quoted s n
+  stays-open w h e = record { within = w; says = rw (le-ltb n (length s) h) e }
+
+  pub closed : Quoted s n → n < length s → standing (readQuoted s) ≡ content (take n s) (drop (n + 1) s)
+  closed q h = rw (add-one n) (rw (lt-ltb n (length s) h) at (q .says))
+
+  pub unclosed : Quoted s n → length s ≤ n → standing (readQuoted s) ≡ noField
+  unclosed q h = rw (le-ltb n (length s) h) at (q .says)
 
 -- the next field, by what the search for the field said
 module _ (s c r : List ℕ) (f : Bool) (e : found f c r ≡ standing (readField s)) where
@@ -38,25 +44,19 @@ module _ (c r q : List ℕ) (f : Bool) (e : ended f q ≡ afterEnd r) where
   pub no-end : f ≡ false → lastOf c (afterEnd r) ≡ noStep
   no-end n = ap (lastOf c) (sym e ∙ ap (λ (b : Bool). ended b q) n) ∙ last-none c
 
-pub more-is-not-wrong : {A : Type 0} → More ≡ Wrong → A
-more-is-not-wrong e = let z : _≡_ {A = ℕ} 0 1 = cc in absurd (omega arith)
-
-pub last-is-not-wrong : {A : Type 0} → Last ≡ Wrong → A
-last-is-not-wrong e = let z : _≡_ {A = ℕ} 0 1 = cc in absurd (omega arith)
-
 -- one outcome
 pub steps-one : StepsOne
 steps-one s oldBody oldRest a b x y r q f g =
     by-answers a b (f .says ∙ sym (g .says)) (f .keeps-body) (f .keeps-rest) (g .keeps-body) (g .keeps-rest)
   where
-    by-answers : (a b : Next) → stepped a x r ≡ stepped b y q → (a ≡ Wrong → x ≡ oldBody) → (a ≡ Wrong → r ≡ oldRest) → (b ≡ Wrong → y ≡ oldBody) → (b ≡ Wrong → q ≡ oldRest)
-        → (a ≡ b) × (x ≡ y) × (r ≡ q)
+    by-answers : (a b : Next) → stepped a x r ≡ stepped b y q → (a ≡ Wrong → x ≡ oldBody) → (a ≡ Wrong → r ≡ oldRest)
+        → (b ≡ Wrong → y ≡ oldBody) → (b ≡ Wrong → q ≡ oldRest) → (a ≡ b) × (x ≡ y) × (r ≡ q)
     by-answers More More e k l m n = (refl, (cc), (cc))
     by-answers Last Last e k l m n = (refl, (cc), (cc))
     by-answers Wrong Wrong e k l m n = (refl, k refl ∙ sym (m refl), l refl ∙ sym (n refl))
-    by-answers More Last e k l m n = let z : _≡_ {A = ℕ} 0 1 = cc in absurd (omega arith)
-    by-answers More Wrong e k l m n = let z : _≡_ {A = ℕ} 0 1 = cc in absurd (omega arith)
-    by-answers Last More e k l m n = let z : _≡_ {A = ℕ} 0 1 = cc in absurd (omega arith)
-    by-answers Last Wrong e k l m n = let z : _≡_ {A = ℕ} 0 1 = cc in absurd (omega arith)
-    by-answers Wrong More e k l m n = let z : _≡_ {A = ℕ} 0 1 = cc in absurd (omega arith)
-    by-answers Wrong Last e k l m n = let z : _≡_ {A = ℕ} 0 1 = cc in absurd (omega arith)
+    by-answers More Last e k l m n = impossible (cc)
+    by-answers More Wrong e k l m n = impossible (cc)
+    by-answers Last More e k l m n = impossible (cc)
+    by-answers Last Wrong e k l m n = impossible (cc)
+    by-answers Wrong More e k l m n = impossible (cc)
+    by-answers Wrong Last e k l m n = impossible (cc)

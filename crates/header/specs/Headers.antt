@@ -1,7 +1,7 @@
--- What the calls on a header promise.
+-- What the calls on a header promise, and that the one for other crates leaves one outcome.
 use mathlib.Core.Path.{_≡_}
-use Prim.Native.Nat.{ℕ, _≤_, _<_}
-use mathlib.Core.List.{List, [], _∷_}
+use Prim.Native.Nat.{ℕ, _<_}
+use mathlib.Core.List.{List}
 use mathlib.Core.Bool.{Bool, true, false, not, _&&_}
 use lib.Dec.{eqb}
 use lib.ListN.{length, getD}
@@ -24,3 +24,8 @@ allNamed columns =
 pub data Heads (s old : List ℕ) : ℕ → List ℕ → List ℕ → Type 0 where
   bad : {columns : List ℕ} → readSheet s ≡ noHeader → Heads s old 0 columns old
   good : {hs : List (List ℕ)} {after : List ℕ} → readRecord s ≡ fields hs after → goodHeader hs ≡ true → Heads s old (length hs) (columnsOf hs) after
+
+-- two outcomes of one header have the same count and rest, and the same columns where the count is not 0
+abbrev pub HeadsOne : Type 0
+HeadsOne = (s old : List ℕ) (m n : ℕ) (columns others after rest : List ℕ)
+    → Heads s old m columns after → Heads s old n others rest → (m ≡ n) × (after ≡ rest) × ((m ≡ 0 → ⊥) → columns ≡ others)

@@ -2,7 +2,7 @@
 ghost use mathlib.Core.Path.{_≡_};
 ghost use Prim.Native.Nat.{_<_};
 ghost use mathlib.Core.List.{[], _∷_};
-ghost use mathlib.Core.Bool.{true};
+ghost use lib.ListN.{length};
 ghost use Rattle.rules.specs.Sheet.{nameOf, isName};
 ghost use Rattle.header.specs.Headers.{Notes, allNamed, Heads};
 use field::Next;
@@ -38,6 +38,7 @@ fn is_column(body: &[u8], which: usize) -> bool
 
 // A column's name is noted where it is one of the four, whose columns are 0 until then; the answer is whether none was noted before.
 fn note_name(body: &[u8], column: usize, columns: &mut [usize; 4]) -> bool
+    requires { ⌜ length (now columns) ≡ 4 ⌝ }
     ensures { λ r. ⌜ Notes (now (body .entry)) column (now (columns .entry)) r (now (columns .exit)) ⌝ }
 {
     let mut k: usize = 0;

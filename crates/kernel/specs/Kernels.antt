@@ -25,6 +25,7 @@ pub record Stores (body : List ℕ) (column : ℕ) (columns old : List ℕ) (ans
 
 -- the columns of the four names are columns of the header, which are counted from 1
 pub record Within (columns : List ℕ) (count : ℕ) : Type 0 where
+  pub four : length columns ≡ 4
   pub from-one : (k : ℕ) → k < 4 → 1 ≤ getD columns k 0
   pub to-last : (k : ℕ) → k < 4 → getD columns k 0 ≤ count
 
@@ -54,3 +55,18 @@ pub record Reads (s columns : List ℕ) (count : ℕ) (answer : Kernels) (words 
   pub long : length words ≡ 4 * taskMost
   pub counted : Counted answer
   pub says : wordsOf answer words ≡ readTasks count columns taskMost 2 s
+
+-- two outcomes of one record are equal: the answer, the bytes after it, and its words where it is as due
+abbrev pub TakesOne : Type 0
+TakesOne = (s columns : List ℕ) (count : ℕ) (old : List ℕ) (a b : Bool) (ws vs r q : List ℕ)
+    → Takes s columns count old a ws r → Takes s columns count old b vs q → (a ≡ b) × (r ≡ q) × (a ≡ true → ws ≡ vs)
+
+-- the words of the kernels that were answered
+abbrev pub answered : Kernels → List ℕ → List ℕ
+answered (Kernels.Whole n) words = take (4 * n) words
+answered (Kernels.Wrong l) words = []
+
+-- two outcomes of all records are equal: the answer, and the words that it counts
+abbrev pub ReadsOne : Type 0
+ReadsOne = (s columns : List ℕ) (count : ℕ) (a b : Kernels) (ws vs : List ℕ)
+    → Reads s columns count a ws → Reads s columns count b vs → (a ≡ b) × (answered a ws ≡ answered b vs)

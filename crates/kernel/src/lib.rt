@@ -1,6 +1,5 @@
 // The records after a sheet's header: of each a kernel's four numbers, by the columns that have the names.
 ghost use mathlib.Core.Path.{_≡_};
-ghost use Prim.Native.Nat.{_≤_};
 ghost use lib.ListN.{length};
 ghost use Rattle.rules.specs.Numbers.{tableMost};
 ghost use Rattle.rules.specs.Sheet.{fieldNumber};
@@ -90,13 +89,14 @@ pub fn read_kernels(s: &[u8], columns: &[usize; 4], count: usize, words: &mut [u
     let mut t = s;
     let mut n: usize = 0;
     while t.len() > 0 {
+        let record = (n + 2) as u32;
         if n == TASK_MOST {
-            return Kernels::Wrong((n + 2) as u32);
+            return Kernels::Wrong(record);
         }
         let mut u = t;
         let taken = read_kernel(t, columns, count, &mut words[4 * n..4 * n + 4], &mut u);
         if !taken {
-            return Kernels::Wrong((n + 2) as u32);
+            return Kernels::Wrong(record);
         }
         t = u;
         n += 1;

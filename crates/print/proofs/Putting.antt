@@ -53,7 +53,7 @@ module _ (l : List ℕ) (at : ℕ) (vs : List ℕ) (h : at + length vs ≤ lengt
   put-split = sym (append-assoc (take at l) vs (drop (at + length vs) l))
 
   -- bytes put after others
-  pub put-put : (ws : List ℕ) → put (put l at vs) (at + length vs) ws ≡ put l at (vs ++ ws)
+  put-put : (ws : List ℕ) → put (put l at vs) (at + length vs) ws ≡ put l at (vs ++ ws)
   put-put ws =
       let n = at + length vs in
       let a : take n (put l at vs) ≡ take at l ++ vs = ap (take n) put-split ∙ take-at (take at l ++ vs) (drop n l) n head-length in
@@ -69,6 +69,9 @@ module _ (l : List ℕ) (at : ℕ) (vs : List ℕ) (h : at + length vs ≤ lengt
       ∙ append-assoc (take at l) vs (ws ++ drop (at + length (vs ++ ws)) l)
       ∙ ap (λ (x : List ℕ). take at l ++ x) (sym (append-assoc vs ws (drop (at + length (vs ++ ws)) l)))
 
+  pub put-after : {m : List ℕ} {r : ℕ} (ws : List ℕ) → Puts l at vs r m → put m r ws ≡ put l at (vs ++ ws)
+  put-after ws p = ap₂ (λ (i : List ℕ) (j : ℕ). put i j ws) (p .leaves) (p .says) ∙ put-put ws
+
   -- one call after another
   pub then : {m k : List ℕ} {r q : ℕ} (ws : List ℕ) → Puts l at vs r m → Puts m r ws q k → Puts l at (vs ++ ws) q k
   then {m} {k} {r} {q} ws p s =
@@ -76,7 +79,7 @@ module _ (l : List ℕ) (at : ℕ) (vs : List ℕ) (h : at + length vs ≤ lengt
       let y = s .says in
       record {
         says = omega (arith, length-append vs ws);
-        leaves = s .leaves ∙ ap₂ (λ (i : List ℕ) (j : ℕ). put i j ws) (p .leaves) (p .says) ∙ put-put ws;
+        leaves = s .leaves ∙ put-after ws p;
       }
 
 -- one digit of a number, put before those that stand in front of it

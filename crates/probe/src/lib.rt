@@ -4,7 +4,7 @@
 ghost use mathlib.Core.Path.{_≡_};
 ghost use Prim.Native.Nat.{_-_};
 ghost use lib.ListN.{length};
-ghost use Rattle.rules.specs.Answers.{readAnswer, readTable, readRest, writeAnswer, writeBuffer, scheduleAnswer, scheduleBuffer, verdictAnswer, patternAnswer, patternBuffer};
+ghost use Rattle.rules.specs.Answers.{readAnswer, readTable, readRest, writeAnswer, writeBuffer, writeSheetAnswer, writeSheetBuffer, scheduleAnswer, scheduleBuffer, verdictAnswer, patternAnswer, patternBuffer};
 ghost use Rattle.rules.specs.Told.{writeTold, scheduleTold, patternTold};
 ghost use Rattle.rules.specs.Generator.{nextState, drawn, drawAnswer, drawState, drawTable};
 ghost use Rattle.told.specs.Sayings.{readProbed, verdictProbed, drawProbed, setProbed};
@@ -40,6 +40,18 @@ pub extern "C" fn probe_write(table: &[u32], text: &mut [u8], out: &mut [u64]) -
         return 999;
     }
     tell::tell(out, told::say_write(writer::write(table, text)))
+}
+
+// The sheet's writer: 0 with the length.
+#[no_mangle]
+pub extern "C" fn probe_sheet_write(table: &[u32], text: &mut [u8], out: &mut [u64]) -> u32
+    ensures told { λ n. ⌜ Probes (writeTold (writeSheetAnswer (now (table .entry)) (now (text .entry)))) (now (out .entry)) n (now (out .exit)) ⌝ }
+    ensures filled { λ _. ⌜ now (text .exit) ≡ byRoom (now (out .entry)) (now (text .entry)) (writeSheetBuffer (now (table .entry)) (now (text .entry))) ⌝ }
+{
+    if out.len() < ROOM {
+        return 999;
+    }
+    tell::tell(out, told::say_write(sheet::write_sheet(table, text)))
 }
 
 // The schedule: 200 on time with the row count; 201 late with the row count, task, job and deadline.

@@ -9,7 +9,7 @@ use mathlib.Core.Bool.{Bool, true, false, _||_}
 use lib.Dec.{ltb, eqb}
 use lib.ListN.{length, drop}
 use borrow.Author.Tests.{lt-ltb, le-ltb, eq-eqb, ne-eqb}
-use Rattle.rules.specs.Numbers.{endMost}
+use Rattle.rules.specs.Numbers.{tableMost, endMost}
 use Rattle.rules.specs.Task.{tasksOf}
 use Rattle.rules.specs.Refusals.{_when_, firstOf, answering, lent}
 use Rattle.rules.specs.Table.{tableRefusal, tableAnswer, ValidTable}
@@ -72,6 +72,10 @@ module _ (w : List ℕ) where
   -- and so its tasks are in bounds
   pub in-bounds : {a : TableAnswer} → a ≡ tableAnswer w → a ≡ TableAnswer.Fine → ValidTable w
   in-bounds e f = valid-of w (not-refused e f)
+
+  -- and its words are few
+  pub few-words : {a : TableAnswer} → a ≡ tableAnswer w → a ≡ TableAnswer.Fine → length w ≤ tableMost
+  few-words e f = let bounds = in-bounds e f in omega (arith, bounds .words, bounds .most-tasks)
 
 -- THE READER
 module _ (text table : List ℕ) where

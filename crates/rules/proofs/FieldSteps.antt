@@ -1,16 +1,16 @@
 -- One step of each definition that reads a field, or what follows one, at bytes known by their place. The content is told as it stands between
 -- quotes. A walk over the bytes of a field has passed some of them where the field is they, before what is read of the others.
 use mathlib.Core.Path.{_≡_, refl, sym, ap, ap₂, _∙_}
-use Prim.Native.Nat.{ℕ, suc, _+_, _≤_, _<_}
+use Prim.Native.Nat.{ℕ, _+_, _≤_, _<_}
 use native.Mathlib.Numerals.{add-one}
 use native.Mathlib.Omega.{arith}
 use mathlib.Core.List.{List, [], _∷_, _++_, append-nil, append-assoc}
 use mathlib.Core.Bool.{Bool, true, false}
 use mathlib.Core.Option.{Option, none, some}
-use lib.Dec.{eqb, ltb}
+use lib.Dec.{eqb}
 use lib.ListN.{length, take, drop, getD, drop-of-length-le}
 use lib.Seq.{drop-cons, drop-drop, take-add}
-use borrow.Author.Tests.{eq-eqb, ne-eqb, lt-ltb, le-ltb}
+use borrow.Author.Tests.{eq-eqb, ne-eqb}
 use Rattle.rules.specs.Choice.{if_then_else_}
 use Rattle.rules.specs.Text.{afterKey}
 use Rattle.rules.specs.Sheet.{crlf, mark, Field, content, noField, byte, readPlain, readQuoted, readField, afterEnd, more, last, noStep, lastOf, followed, Step, nextField}
@@ -18,6 +18,10 @@ use Rattle.rules.specs.Sheets.{doubled, standing, standingStep}
 use Rattle.rules.proofs.Booleans.{true-is-not-false}
 use Rattle.rules.proofs.ReadSteps.{empty, first-of}
 use Rattle.rules.proofs.Records.{double-other}
+
+-- two constructors are never equal, and from `0 ≡ 1`, which that gives, all follows
+pub impossible : {A : Type 0} → _≡_ {A = ℕ} 0 1 → A
+impossible e = absurd (omega arith)
 
 -- a mark
 module _ (b : ℕ) where
@@ -117,9 +121,9 @@ module _ (s : List ℕ) (i : ℕ) (p : Passed readPlain s i) where
 
 -- a quoted field after its first quote, of which i bytes are passed
 module _ (s : List ℕ) (i : ℕ) (p : Passed readQuoted s i) where
-  pub quoted-open : length s ≤ i → standing (readQuoted s) ≡ (if ltb i (length s) then content (take i s) (drop (suc i) s) else noField)
+  pub quoted-open : length s ≤ i → standing (readQuoted s) ≡ noField
   unfolding readQuoted standing
-  quoted-open h = rw (le-ltb i (length s) h) (passed-nothing readQuoted s i p (rw (drop-of-length-le s h)))
+  quoted-open h = passed-nothing readQuoted s i p (rw (drop-of-length-le s h))
 
   module _ (h : i < length s) where
     pub quoted-step : (getD s i 0 ≡ 34 → ⊥) → Passed readQuoted s (i + 1)
@@ -129,20 +133,17 @@ module _ (s : List ℕ) (i : ℕ) (p : Passed readQuoted s i) where
         (rw (at-place s i h, ne-eqb (getD s i 0) 34 n) (standing-byte (getD s i 0) (readQuoted (drop (i + 1) s)) n))
 
     module _ (q : getD s i 0 ≡ 34) where
-      closed : standing (readQuoted (drop i s)) ≡ content [] (drop (suc i) s)
-          → standing (readQuoted s) ≡ (if ltb i (length s) then content (take i s) (drop (suc i) s) else noField)
-      closed e = rw (lt-ltb i (length s) h) (passed-all readQuoted s i (drop (suc i) s) p e)
-
-      pub quoted-last : i + 1 ≡ length s → standing (readQuoted s) ≡ (if ltb i (length s) then content (take i s) (drop (suc i) s) else noField)
+      pub quoted-last : i + 1 ≡ length s → standing (readQuoted s) ≡ content (take i s) (drop (i + 1) s)
       unfolding readQuoted standing doubled
       quoted-last e =
           let end : length s ≤ i + 1 = omega arith in
-          closed (rw (← add-one i, at-place s i h, q, drop-of-length-le s end))
+          passed-all readQuoted s i (drop (i + 1) s) p (rw (at-place s i h, q, drop-of-length-le s end))
 
       module _ (k : i + 1 < length s) where
-        pub quoted-closed : (getD s (i + 1) 0 ≡ 34 → ⊥) → standing (readQuoted s) ≡ (if ltb i (length s) then content (take i s) (drop (suc i) s) else noField)
+        pub quoted-closed : (getD s (i + 1) 0 ≡ 34 → ⊥) → standing (readQuoted s) ≡ content (take i s) (drop (i + 1) s)
         unfolding readQuoted standing doubled
-        quoted-closed n = closed (rw (← add-one i, at-place s i h, q, at-place s (i + 1) k, ne-eqb (getD s (i + 1) 0) 34 n))
+        quoted-closed n =
+            passed-all readQuoted s i (drop (i + 1) s) p (rw (at-place s i h, q, at-place s (i + 1) k, ne-eqb (getD s (i + 1) 0) 34 n))
 
         pub quoted-twice : getD s (i + 1) 0 ≡ 34 → Passed readQuoted s (i + 1 + 1)
         unfolding Passed readQuoted
@@ -232,17 +233,17 @@ module _ (b r : List ℕ) where
   pub stands-more : (x : Step) → more b r ≡ standingStep x → (c : List ℕ) × (x ≡ more c r) × (b ≡ doubled c)
   unfolding standingStep
   stands-more (more c s) e = (c, (cc), (cc))
-  stands-more (last c s) e = let z : _≡_ {A = ℕ} 0 1 = cc in absurd (omega arith)
-  stands-more noStep e = let z : _≡_ {A = ℕ} 0 1 = cc in absurd (omega arith)
+  stands-more (last c s) e = impossible (cc)
+  stands-more noStep e = impossible (cc)
 
   pub stands-last : (x : Step) → last b r ≡ standingStep x → (c : List ℕ) × (x ≡ last c r) × (b ≡ doubled c)
   unfolding standingStep
-  stands-last (more c s) e = let z : _≡_ {A = ℕ} 0 1 = cc in absurd (omega arith)
+  stands-last (more c s) e = impossible (cc)
   stands-last (last c s) e = (c, (cc), (cc))
-  stands-last noStep e = let z : _≡_ {A = ℕ} 0 1 = cc in absurd (omega arith)
+  stands-last noStep e = impossible (cc)
 
 pub stands-none : (x : Step) → noStep ≡ standingStep x → x ≡ noStep
 unfolding standingStep
-stands-none (more c s) e = let z : _≡_ {A = ℕ} 0 1 = cc in absurd (omega arith)
-stands-none (last c s) e = let z : _≡_ {A = ℕ} 0 1 = cc in absurd (omega arith)
+stands-none (more c s) e = impossible (cc)
+stands-none (last c s) e = impossible (cc)
 stands-none noStep e = refl

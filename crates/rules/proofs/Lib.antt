@@ -49,11 +49,14 @@ pub mod TextLengths
 -- sheets
 pub mod Records
 pub mod FieldSteps
+pub mod RowSteps
 pub mod SheetGrammar
 pub mod SheetNames
 pub mod SheetRecords
 pub mod SheetReading
+pub mod SheetWriting
 pub mod SheetTrips
+pub mod HeaderSteps
 pub mod Rooms
 -- the report and the program's output
 pub mod Printed

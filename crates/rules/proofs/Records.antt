@@ -3,7 +3,7 @@
 use mathlib.Core.Path.{_≡_, refl, sym, ap, _∙_}
 use Prim.Native.Nat.{ℕ, zero, suc, _+_, _-_, _*_, _≤_, _<_}
 use native.Mathlib.Omega.{arith}
-use mathlib.Core.List.{List, [], _∷_, _++_}
+use mathlib.Core.List.{List, [], _∷_, _++_, append-nil}
 use mathlib.Core.Bool.{Bool, true, false, not, _&&_}
 use mathlib.Core.Option.{Option, none, some}
 use lib.Dec.{eqb}
@@ -120,6 +120,10 @@ pub befores-fields : (cs ds : List (List ℕ)) (s : List ℕ) → befores cs (fi
 unfolding befores before
 befores-fields [] ds s = refl
 befores-fields (c ∷ cs) ds s = ap (before c) (befores-fields cs ds s)
+
+-- where no field is left
+pub befores-all : (cs : List (List ℕ)) (s : List ℕ) → befores cs (fields [] s) ≡ fields cs s
+befores-all cs s = befores-fields cs [] s ∙ ap (λ (ds : List (List ℕ)). fields ds s) (append-nil cs)
 
 pub befores-nothing : (cs : List (List ℕ)) → befores cs noRecord ≡ noRecord
 unfolding befores before

@@ -199,7 +199,7 @@ module _ (s : List ℕ) where
   header-good : {hs : List (List ℕ)} {after : List ℕ} → Header s hs after → goodHeader hs ≡ true
   header-good {hs} H = header-exact hs .1 (H .execution, H .deadline, H .period, H .release)
 
-  header-of : {hs : List (List ℕ)} {after : List ℕ} → readRecord s ≡ fields hs after → goodHeader hs ≡ true → Header s hs after
+  pub header-of : {hs : List (List ℕ)} {after : List ℕ} → readRecord s ≡ fields hs after → goodHeader hs ≡ true → Header s hs after
   header-of {hs} {after} e good =
       let names = header-exact hs .0 good in
       record { begins = record-exact s hs after .0 e; execution = names .0; deadline = names .1; period = names .2; release = names .3 }

@@ -1,12 +1,12 @@
 -- Parts and copies of a list, as code makes them.
 use mathlib.Core.Path.{_≡_, sym, ap, ap₂, _∙_}
-use Prim.Native.Nat.{ℕ, _+_, _-_, _*_, _<_}
+use Prim.Native.Nat.{ℕ, _+_, _-_, _*_, _≤_, _<_}
 use native.Mathlib.Numerals.{add-one, add-two, add-three}
 use native.Mathlib.Nat.{zero-add}
 use native.Mathlib.Omega.{arith}
 use mathlib.Core.List.{List, [], _∷_, _++_, append-nil, append-assoc}
 use lib.ListN.{length, take, drop, getD, set, length-append, length-drop}
-use lib.Seq.{take-all, take-at, drop-at, drop-drop, take-length, drop-length, paste-suc, sets-eq}
+use lib.Seq.{length-take-le, take-all, take-at, drop-at, drop-drop, take-length, drop-length, paste-suc, sets-eq}
 
 -- what `&s[a..]` is
 pub part : (a : ℕ) (s : List ℕ) → take (length s - a) (drop a s) ≡ drop a s
@@ -52,3 +52,9 @@ module _ (p r l : List ℕ) (at : ℕ) (n : length p ≡ at) (e : l ≡ p ++ r) 
   end-back ys =
       ap₂ (λ (x y : List ℕ). x ++ (ys ++ y)) (ap (take at) e ∙ take-at p r at n) (ap₂ (λ (k : ℕ) (x : List ℕ). drop k x) count behind ∙ drop-length r)
       ∙ ap (λ (x : List ℕ). p ++ x) (append-nil ys)
+
+-- a part of a list is lent and comes back as ys
+pub part-back : (l : List ℕ) (at n : ℕ) (rest ys : List ℕ) → at ≤ length l → length ys ≡ n → take (at + n) (take at l ++ (ys ++ rest)) ≡ take at l ++ ys
+part-back l at n rest ys h e =
+    let long : length (take at l ++ ys) ≡ at + n = length-append (take at l) ys ∙ ap₂ _+_ (length-take-le at l h) e in
+    ap (take (at + n)) (sym (append-assoc (take at l) ys rest)) ∙ take-at (take at l ++ ys) rest (at + n) long

@@ -55,7 +55,7 @@ module _ (ws : List ℕ) (k : ℕ) where
     unfolding writeLines
     write-more = rw (drop-cons ws k 0, add-one)
 
-    pub line-room : length (line (keyOf (k % 4)) (digits (getD ws k 0))) ≡ length (digits (getD ws k 0)) + 3
+    line-room : length (line (keyOf (k % 4)) (digits (getD ws k 0))) ≡ length (digits (getD ws k 0)) + 3
     line-room = omega (arith, line-length (keyOf (k % 4)) (digits (getD ws k 0)), key-length (k % 4))
 
     pub step-length : length (writeLines k (drop k ws)) ≡ length (digits (getD ws k 0)) + 3 + length (writeLines (k + 1) (drop (k + 1) ws))

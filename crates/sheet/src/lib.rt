@@ -30,20 +30,20 @@ pub fn read_sheet(text: &[u8], table: &mut [u32]) -> ReadAnswer
     }
     let mut words = [0u32; TABLE_MOST];
     let kernels = kernel::read_kernels(after, &columns, count, &mut words);
-    let Kernels::Whole(n) = kernels else {
-        let Kernels::Wrong(l) = kernels else {
-            return ReadAnswer::Refused(Refusal::NoRecord);
-        };
-        return ReadAnswer::Refused(Refusal::BadRecord(l));
-    };
-    if n == 0 {
-        return ReadAnswer::Refused(Refusal::NoRecord);
+    match kernels {
+        Kernels::Wrong(l) => ReadAnswer::Refused(Refusal::BadRecord(l)),
+        Kernels::Whole(n) => {
+            if n == 0 {
+                return ReadAnswer::Refused(Refusal::NoRecord);
+            }
+            let m = 4 * n;
+            if table.len() < m {
+                return ReadAnswer::Refused(Refusal::TooShort);
+            }
+            table::copy_words(&words, m, table);
+            ReadAnswer::Set(n as u32)
+        }
     }
-    if table.len() < 4 * n {
-        return ReadAnswer::Refused(Refusal::TooShort);
-    }
-    table::copy_words(&words, 4 * n, table);
-    ReadAnswer::Set(n as u32)
 }
 
 // A task's word is put at a place, with what stands after it: a comma, or the line end after the last.
@@ -58,6 +58,17 @@ fn put_word(out: &mut [u8], at: usize, which: usize, n: u32) -> usize
     print::put_bytes(out, after, b",")
 }
 
+// How long what stands after a task's word is.
+fn mark_length(which: usize) -> usize
+    requires { ⌜ which < 4 ⌝ }
+    ensures { λ r. ⌜ (r ≡ length (afterWord which)) × (r ≤ 2) ⌝ }
+{
+    if which == 3 {
+        return 2;
+    }
+    1
+}
+
 // How long the sheet of a table is.
 fn sheet_length(table: &[u32]) -> usize
     requires { ⌜ length (now table) ≤ tableMost ⌝ }
@@ -66,10 +77,7 @@ fn sheet_length(table: &[u32]) -> usize
     let mut total: usize = 35;
     let mut k: usize = 0;
     while k < table.len() {
-        total += print::width(table[k]) + 1;
-        if k % 4 == 3 {
-            total += 1;
-        }
+        total += print::width(table[k]) + mark_length(k % 4);
         k += 1;
     }
     total

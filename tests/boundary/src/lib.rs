@@ -23,6 +23,10 @@ extern "C" {
     fn probe_draw(state: u32, out: *mut u64, out_length: usize) -> u32;
     fn probe_generate(state: u32, number: u32, table: *mut u32, table_length: usize,
                       out: *mut u64, out_length: usize) -> u32;
+    fn probe_sheet_read(text: *const u8, text_length: usize, table: *mut u32, table_length: usize,
+                        out: *mut u64, out_length: usize) -> u32;
+    fn probe_sheet_write(table: *const u32, table_length: usize, text: *mut u8, text_length: usize,
+                         out: *mut u64, out_length: usize) -> u32;
 }
 
 // Each wrapper lends whole slices, so every pointer is valid for its length during the call.
@@ -91,5 +95,31 @@ pub fn draw(state: u32, out: &mut [u64]) -> u32 {
 pub fn generate(state: u32, number: u32, table: &mut [u32], out: &mut [u64]) -> u32 {
     unsafe {
         probe_generate(state, number, table.as_mut_ptr(), table.len(), out.as_mut_ptr(), out.len())
+    }
+}
+
+pub fn sheet_read(text: &[u8], table: &mut [u32], out: &mut [u64]) -> u32 {
+    unsafe {
+        probe_sheet_read(
+            text.as_ptr(),
+            text.len(),
+            table.as_mut_ptr(),
+            table.len(),
+            out.as_mut_ptr(),
+            out.len(),
+        )
+    }
+}
+
+pub fn sheet_write(table: &[u32], text: &mut [u8], out: &mut [u64]) -> u32 {
+    unsafe {
+        probe_sheet_write(
+            table.as_ptr(),
+            table.len(),
+            text.as_mut_ptr(),
+            text.len(),
+            out.as_mut_ptr(),
+            out.len(),
+        )
     }
 }

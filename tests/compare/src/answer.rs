@@ -20,6 +20,7 @@ fn refused(refusal: Refusal) -> Answer {
     match refusal {
         Refusal::OutOfRange { word } => answer(refusal.number(), &[word as u64]),
         Refusal::Line { line } => answer(refusal.number(), &[line as u64]),
+        Refusal::Record { record } => answer(refusal.number(), &[record as u64]),
         _ => answer(refusal.number(), &[]),
     }
 }
@@ -78,5 +79,19 @@ pub fn generate(state: u32, number: u32, table: &mut [u32]) -> Answer {
     match oracle::generate(&mut after, number, table) {
         Ok(tasks) => answer(0, &[tasks as u64, u64::from(after)]),
         Err(refusal) => answer(refusal.number(), &[u64::from(after)]),
+    }
+}
+
+pub fn sheet_read(sheet: &[u8], table: &mut [u32]) -> Answer {
+    match oracle::read_sheet(sheet, table) {
+        Ok(tasks) => answer(0, &[tasks as u64]),
+        Err(refusal) => refused(refusal),
+    }
+}
+
+pub fn sheet_write(table: &[u32], sheet: &mut [u8]) -> Answer {
+    match oracle::write_sheet(table, sheet) {
+        Ok(length) => answer(0, &[length as u64]),
+        Err(refusal) => refused(refusal),
     }
 }

@@ -133,6 +133,28 @@ impl Checker {
         Ok(())
     }
 
+    pub fn sheet_read(&mut self, sheet: &[u8], length: usize) -> Outcome {
+        let call = "probe_sheet_read";
+        let copy = sheet.to_vec();
+        let input = || show_text(sheet);
+        let ours = |table: &mut [u32], out: &mut [u64]| boundary::sheet_read(&copy, table, out);
+        let theirs = |table: &mut [u32]| answer::sheet_read(sheet, table);
+        let wanted = self.check(call, input, length, ours, theirs)?;
+        self.tally.shades(call, &shades::of_sheet_read(sheet, &wanted));
+        unchanged(call, &copy, sheet, input)
+    }
+
+    pub fn sheet_write(&mut self, table: &[u32], length: usize) -> Outcome {
+        let call = "probe_sheet_write";
+        let copy = table.to_vec();
+        let input = || show_table(table);
+        let ours = |sheet: &mut [u8], out: &mut [u64]| boundary::sheet_write(&copy, sheet, out);
+        let theirs = |sheet: &mut [u8]| answer::sheet_write(table, sheet);
+        let wanted = self.check(call, input, length, ours, theirs)?;
+        self.tally.shades(call, &shades::of_sheet_write(table, &wanted));
+        unchanged(call, &copy, table, input)
+    }
+
     /// Runs both sides, holds one to the other and counts the case; gives back what was wanted.
     fn check<W: Word>(
         &mut self,

@@ -70,6 +70,7 @@ fn sixty_four_tasks(checker: &mut Checker) -> Outcome {
 fn short_outs(checker: &mut Checker) -> Outcome {
     let table = table(SETS[2]);
     let text = oracle::writer::set_text(&table);
+    let sheet = oracle::sheet::sheet_of(&table);
     for out_length in 0..=6 {
         checker.out = Some(out_length);
         checker.read(&text, 8)?;
@@ -79,6 +80,8 @@ fn short_outs(checker: &mut Checker) -> Outcome {
         checker.pattern(&table, 20)?;
         checker.draw(7)?;
         checker.generate(7, 0, 4)?;
+        checker.sheet_read(&sheet, 8)?;
+        checker.sheet_write(&table, 100)?;
     }
     Ok(())
 }
@@ -102,6 +105,7 @@ fn table_edges(checker: &mut Checker) -> Outcome {
 
 fn each_call_once(checker: &mut Checker, table: &[u32]) -> Outcome {
     checker.write(table, 3000)?;
+    checker.sheet_write(table, 3000)?;
     checker.verdict(table)?;
     checker.schedule(table, 1, 1100)?;
     checker.pattern(table, 1100)

@@ -11,6 +11,7 @@ mod generator;
 mod lent;
 mod rounds;
 mod shades;
+mod sheets;
 mod tally;
 mod trips;
 
@@ -60,5 +61,6 @@ fn rounds_asked_for() -> Option<usize> {
 fn compare(checker: &mut Checker, rounds: usize) -> Outcome {
     fixed::run(checker)?;
     rounds::run(checker, rounds)?;
-    generator::run(checker, rounds)
+    generator::run(checker, rounds)?;
+    sheets::run(checker, rounds)
 }

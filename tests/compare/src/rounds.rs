@@ -4,6 +4,7 @@ use crate::checks::Checker;
 use crate::difference::Outcome;
 use crate::trips;
 use cases::{damage, tables, texts, Random};
+use oracle::sheet::sheet_of;
 use oracle::writer::set_text;
 
 /// A schedule of more rows than this is drawn seldom.
@@ -28,6 +29,7 @@ pub fn run(checker: &mut Checker, rounds: usize) -> Outcome {
 
 pub fn on_table(checker: &mut Checker, table: &[u32]) -> Outcome {
     write(checker, table)?;
+    sheet_write(checker, table)?;
     schedule(checker, table)?;
     checker.verdict(table)?;
     pattern(checker, table)
@@ -90,6 +92,14 @@ fn write(checker: &mut Checker, table: &[u32]) -> Outcome {
     Ok(())
 }
 
+fn sheet_write(checker: &mut Checker, table: &[u32]) -> Outcome {
+    let needed = if oracle::table::tasks(table).is_ok() { sheet_of(table).len() } else { 50 };
+    for length in lengths_around(needed) {
+        checker.sheet_write(table, length)?;
+    }
+    Ok(())
+}
+
 fn schedule(checker: &mut Checker, table: &[u32]) -> Outcome {
     let small = checker.random.between(2, 150);
     for z in [0, 1, small, 100_000, 100_001, u32::MAX] {
@@ -129,6 +139,7 @@ fn round_trips(checker: &mut Checker) -> Outcome {
         tables::in_range(&mut checker.random)
     };
     trips::write_then_read(checker, &table)?;
+    trips::sheet_then_text(checker, &table)?;
     let set = texts::in_range(&mut checker.random);
     let after =
         if checker.random.one_in(2) { texts::readable(&mut checker.random) } else { Vec::new() };

@@ -181,3 +181,73 @@ fn of_words(set: &[u32]) -> Shades {
         ("R of 999", some(|task| task[3] == 999)),
     ]
 }
+
+pub fn of_sheet_read(sheet: &[u8], wanted: &Done<u32>) -> Shades {
+    let out = wanted.out.content();
+    let length = wanted.buffer.content().len();
+    match wanted.number {
+        0 => of_good_sheet(sheet, &wanted.buffer.content()[..4 * out[0] as usize]),
+        6 => vec![
+            ("6 by one word", length + 1 == words_in_sheet(sheet)),
+            ("6 with no table", length == 0),
+        ],
+        13 => {
+            vec![("13 with no byte", sheet.is_empty()), ("13 with too short a table", length < 4)]
+        }
+        14 => vec![
+            ("14 at record 2", out[0] == 2),
+            ("14 at a later record", (3..=65).contains(&out[0])),
+            ("14 at record 66", out[0] == 66),
+            ("14 before a 65th", out[0] < 66 && line_ends(sheet) > 66),
+            ("14 with too short a table", length < 4),
+        ],
+        15 => vec![
+            ("15 without a line end", !sheet.ends_with(b"\n")),
+            ("15 with a line end", sheet.ends_with(b"\n")),
+            ("15 with too short a table", length < 4),
+        ],
+        _ => vec![],
+    }
+}
+
+/// The words of a sheet that can be read.
+pub fn words_in_sheet(sheet: &[u8]) -> usize {
+    oracle::read_sheet(sheet, &mut [0; 256]).map_or(0, |tasks| 4 * tasks)
+}
+
+fn line_ends(sheet: &[u8]) -> usize {
+    sheet.iter().filter(|&&byte| byte == b'\n').count()
+}
+
+/// Where there is no quote, every comma and line end is what it looks like.
+fn of_good_sheet(sheet: &[u8], words: &[u32]) -> Shades {
+    let has = |bytes: &[u8]| sheet.windows(bytes.len()).any(|window| window == bytes);
+    let quotes = has(b"\"");
+    let names: Vec<&[u8]> =
+        sheet.split(|&byte| byte == b'\n').next().unwrap_or(sheet).split(|&b| b == b',').collect();
+    let place = |name: &[u8]| names.iter().position(|&other| other == name);
+    vec![
+        ("0 with 64 records", words.len() == 256),
+        ("0 with bare LF", !quotes && !has(b"\r")),
+        ("0 with no last line end", !sheet.ends_with(b"\n")),
+        ("0 with other columns", !quotes && names.len() > 4),
+        ("0 with columns in another order", !quotes && place(b"period") < place(b"execution")),
+        ("0 with quotes", quotes),
+        ("0 with quotes doubled", has(b"a\"\"")),
+        ("0 with bytes above 127", sheet.iter().any(|&byte| byte > 127)),
+        ("0 with a number above 65,535", words.iter().any(|&word| word > 65_535)),
+    ]
+}
+
+pub fn of_sheet_write(table: &[u32], wanted: &Done<u8>) -> Shades {
+    let length = wanted.buffer.content().len();
+    match wanted.number {
+        0 => vec![("0 with 64 tasks", table.len() == 256)],
+        4 => vec![("4 with too short a buffer", length == 0)],
+        6 => vec![
+            ("6 by one byte", length + 1 == oracle::sheet::sheet_of(table).len()),
+            ("6 with no byte", length == 0),
+        ],
+        _ => vec![],
+    }
+}

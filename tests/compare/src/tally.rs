@@ -7,7 +7,7 @@ use std::fmt;
 
 /// For each call every answer that it can give, then the shades that have to be met as well.
 #[rustfmt::skip]
-const KNOWN: [(&str, &[&str], &[&str]); 12] = [
+const KNOWN: [(&str, &[&str], &[&str]); 15] = [
     ("probe_read", &["0", "6", "7", "999"],
      &["0 with a rest", "0 with no rest", "6 by one word", "7 on line 1", "7 on a later line",
        "7 with too short a table"]),
@@ -34,6 +34,16 @@ const KNOWN: [(&str, &[&str], &[&str]); 12] = [
     ("a state carried on by draws", &["0"], &[]),
     ("a state carried on by sets", &["0", "6"], &[]),
     ("generate, then judge", &["a verdict, and the right one"], &[]),
+    ("probe_sheet_read", &["0", "6", "13", "14", "15", "999"],
+     &["0 with 64 records", "0 with bare LF", "0 with no last line end", "0 with other columns",
+       "0 with columns in another order", "0 with quotes", "0 with quotes doubled",
+       "0 with bytes above 127", "0 with a number above 65,535", "6 by one word",
+       "6 with no table", "13 with no byte", "13 with too short a table", "14 at record 2",
+       "14 at a later record", "14 at record 66", "14 before a 65th", "14 with too short a table",
+       "15 without a line end", "15 with a line end", "15 with too short a table"]),
+    ("probe_sheet_write", &["0", "1", "2", "3", "4", "6", "999"],
+     &["0 with 64 tasks", "4 with too short a buffer", "6 by one byte", "6 with no byte"]),
+    ("sheet, then text", &["the table's text"], &[]),
     ("write, then read", &["the numbers came back"], &[]),
     ("read, then write", &["the bytes came back"], &[]),
 ];
@@ -79,7 +89,11 @@ impl Tally {
             let never = known.filter(|answer| self.count(call, answer) == 0);
             missing.extend(never.map(|answer| format!("{call}: {answer}")));
         }
-        let damages = cases::damage::ALL.map(cases::damage::name);
+        let damages = [
+            &cases::damage::ALL.map(cases::damage::name)[..],
+            &cases::sheet_damage::ALL.map(cases::sheet_damage::name)[..],
+        ]
+        .concat();
         let never = damages.iter().filter(|kind| self.damages.get(*kind).is_none_or(|&n| n == 0));
         missing.extend(never.map(|kind| format!("a refusal after the damage: {kind}")));
         missing
@@ -95,7 +109,7 @@ impl fmt::Display for Tally {
             }
             writeln!(f)?;
         }
-        write!(f, "texts refused after damage")?;
+        write!(f, "texts and sheets refused after damage")?;
         for (kind, refused) in &self.damages {
             write!(f, "; {kind}: {refused}")?;
         }

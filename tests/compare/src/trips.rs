@@ -8,6 +8,8 @@ use boundary::LEAST_OUT;
 const MOST_WORDS: usize = 256;
 /// The first line and 256 lines of eight bytes at most.
 const MOST_TEXT: usize = 9 + 8 * MOST_WORDS;
+/// The header and 64 records of 25 bytes at most.
+const MOST_SHEET: usize = 35 + 25 * 64;
 
 /// What the probe writes for a table in range is read back to the same numbers.
 pub fn write_then_read(checker: &mut Checker, table: &[u32]) -> Outcome {
@@ -41,6 +43,26 @@ pub fn read_then_write(checker: &mut Checker, set: &[u8], after: &[u8]) -> Outco
         && written[0] as usize == set.len()
         && back[..set.len()] == *set;
     end(checker, "read, then write", "the bytes came back", same, || show_text(&text))
+}
+
+/// The sheet that the probe writes for a table in range is read back to the same numbers, and the text
+/// of these is the text of the table.
+pub fn sheet_then_text(checker: &mut Checker, table: &[u32]) -> Outcome {
+    let mut sheet = [0xee; MOST_SHEET];
+    let mut back = [0xdead_beef; MOST_WORDS];
+    let mut text = [0xee; MOST_TEXT];
+    let [mut written, mut read, mut again] = [[0; LEAST_OUT]; 3];
+    let first = boundary::sheet_write(table, &mut sheet, &mut written);
+    let length = (written[0] as usize).min(MOST_SHEET);
+    let second = boundary::sheet_read(&sheet[..length], &mut back, &mut read);
+    let words = (4 * read[0] as usize).min(MOST_WORDS);
+    let third = boundary::write(&back[..words], &mut text, &mut again);
+    let wanted = oracle::writer::set_text(table);
+    let same = [first, second, third] == [0; 3]
+        && back[..words] == *table
+        && again[0] as usize == wanted.len()
+        && text[..wanted.len()] == wanted[..];
+    end(checker, "sheet, then text", "the table's text", same, || show_table(table))
 }
 
 /// What the probe draws is judged as the oracle judges it, not refused, and its text is read back to

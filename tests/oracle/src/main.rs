@@ -1,10 +1,15 @@
 //! `oracle program` prints what the program must print for its standard input;
 //! `oracle call` prints the number that the C call must hand back for it;
 //! `oracle numbers` prints the number of each answer;
-//! `oracle generate SEED COUNT` prints the texts of so many sets drawn from the seed.
+//! `oracle generate SEED COUNT` prints the texts of so many sets drawn from the seed;
+//! `oracle sheet` makes a sheet on standard input into a text, `oracle sheet --back` the first set of
+//! a text into a sheet, or says on standard error why not, and ends in status 2.
 
 use std::io::{self, Read, Write};
 use std::process::ExitCode;
+
+const USAGE: &str = "usage: oracle program | oracle call | oracle numbers | \
+                     oracle generate SEED COUNT | oracle sheet [--back]";
 
 fn main() -> ExitCode {
     let words: Vec<String> = std::env::args().skip(1).collect();
@@ -17,28 +22,42 @@ fn main() -> ExitCode {
             (Ok(seed), Ok(count)) => print(&oracle::generator::texts(seed, count)),
             _ => return usage(),
         },
+        ["sheet"] => convert(oracle::convert::to_text),
+        ["sheet", "--back"] => convert(oracle::convert::to_sheet),
         _ => return usage(),
     };
-    match done {
-        Ok(()) => ExitCode::SUCCESS,
-        Err(error) => {
-            eprintln!("oracle: {error}");
-            ExitCode::FAILURE
+    done.unwrap_or_else(|error| {
+        eprintln!("oracle: {error}");
+        ExitCode::FAILURE
+    })
+}
+
+fn usage() -> ExitCode {
+    eprintln!("{USAGE}");
+    ExitCode::from(2)
+}
+
+fn answer(to: fn(&[u8]) -> String) -> io::Result<ExitCode> {
+    print(to(&input()?).as_bytes())
+}
+
+fn convert(make: fn(&[u8]) -> Result<Vec<u8>, String>) -> io::Result<ExitCode> {
+    match make(&input()?) {
+        Ok(made) => print(&made),
+        Err(told) => {
+            eprintln!("tilecheck: {told}");
+            Ok(ExitCode::from(2))
         }
     }
 }
 
-fn usage() -> ExitCode {
-    eprintln!("usage: oracle program | oracle call | oracle numbers | oracle generate SEED COUNT");
-    ExitCode::from(2)
-}
-
-fn answer(to: fn(&[u8]) -> String) -> io::Result<()> {
+fn input() -> io::Result<Vec<u8>> {
     let mut input = Vec::new();
     io::stdin().lock().read_to_end(&mut input)?;
-    print(to(&input).as_bytes())
+    Ok(input)
 }
 
-fn print(text: &[u8]) -> io::Result<()> {
-    io::stdout().lock().write_all(text)
+fn print(text: &[u8]) -> io::Result<ExitCode> {
+    io::stdout().lock().write_all(text)?;
+    Ok(ExitCode::SUCCESS)
 }

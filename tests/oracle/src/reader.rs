@@ -44,8 +44,8 @@ fn first_set(text: &[u8]) -> Result<(Vec<u32>, &[u8]), usize> {
 fn line<'a>(text: &'a [u8], key: &[u8]) -> Option<(u32, &'a [u8])> {
     let text = text.strip_prefix(key)?;
     let length = digits(text);
-    let (number, rest) = text.split_at(length);
-    let value = number_value(number)?;
+    let (digits, rest) = text.split_at(length);
+    let value = number(digits)?;
     let rest = rest.strip_prefix(b"\n")?;
     Some((value, rest))
 }
@@ -55,13 +55,13 @@ fn digits(text: &[u8]) -> usize {
     text.iter().take(MOST_DIGITS + 1).take_while(|byte| byte.is_ascii_digit()).count()
 }
 
-/// One to five digits, no leading zero except 0 itself.
-fn number_value(digits: &[u8]) -> Option<u32> {
-    if digits.is_empty() || digits.len() > MOST_DIGITS {
+/// One to five decimal digits, no leading zero except 0 itself.
+pub fn number(text: &[u8]) -> Option<u32> {
+    if text.is_empty() || text.len() > MOST_DIGITS || !text.iter().all(u8::is_ascii_digit) {
         return None;
     }
-    if digits[0] == b'0' && digits.len() > 1 {
+    if text[0] == b'0' && text.len() > 1 {
         return None;
     }
-    Some(digits.iter().fold(0, |value, digit| 10 * value + u32::from(digit - b'0')))
+    Some(text.iter().fold(0, |value, digit| 10 * value + u32::from(digit - b'0')))
 }

@@ -18,6 +18,12 @@ pub enum Refusal {
     Line { line: usize },
     /// 8: a pattern is asked for and the verdict isn't "misses".
     NotMisses,
+    /// 13: the header is missing or bad.
+    Header,
+    /// 14: a record isn't as due, or is a 65th after the header; its number, the header being 1.
+    Record { record: usize },
+    /// 15: no record comes after the header.
+    NoRecord,
 }
 
 impl Refusal {
@@ -31,6 +37,9 @@ impl Refusal {
             Refusal::ShortBuffer => 6,
             Refusal::Line { .. } => 7,
             Refusal::NotMisses => 8,
+            Refusal::Header => 13,
+            Refusal::Record { .. } => 14,
+            Refusal::NoRecord => 15,
         }
     }
 }

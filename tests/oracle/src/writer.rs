@@ -31,7 +31,7 @@ fn push_line(text: &mut Vec<u8>, key: &[u8], number: u32) {
     text.push(b'\n');
 }
 
-fn push_number(text: &mut Vec<u8>, number: u32) {
+pub fn push_number(text: &mut Vec<u8>, number: u32) {
     if number >= 10 {
         push_number(text, number / 10);
     }

@@ -2,16 +2,16 @@
 -- makes it `Wrong`, and body and rest are stored only where nothing is.
 use mathlib.Core.Logic.{⊎-elim}
 use mathlib.Core.Path.{_≡_, refl, sym, ap, _∙_}
+use Prim.Native.Nat.{ℕ}
 use native.Mathlib.Omega.{arith}
 use mathlib.Core.List.{List}
-use Prim.Native.Nat.{ℕ}
 use borrow.Author.Needs.{needs}
 use borrow.Author.Tests.{not-true, not-false}
 use Rattle.rules.specs.Sheet.{content, afterEnd, more, lastOf, readField, nextField}
 use Rattle.rules.specs.Sheets.{standing, standingStep}
-use Rattle.rules.proofs.FieldSteps.{next-comma, next-end, next-other}
+use Rattle.rules.proofs.FieldSteps.{impossible, next-comma, next-end, next-other}
 use Rattle.rules.proofs.Slices.{part}
-use Rattle.field.proofs.Fields.{the-field, no-field, the-end, no-end, more-is-not-wrong, last-is-not-wrong}
+use Rattle.field.proofs.Fields.{the-field, no-field, the-end, no-end}
 use Rattle.field.proofs.next_field.Statement.{statement}
 use Rattle.field.proofs.next_field.Tie as tie
 
@@ -70,11 +70,12 @@ returns-2 : tie.Need-returns-2
 returns-2 c =
     let at-comma = c .before in
     let at-after = at-comma .before .before in
-    let rest = after (at-after .before .before) in
+    let read = at-after .before .before in
+    let rest = after read in
     record {
-      says = ap (more (inside (at-after .before .before))) (part 1 rest) ∙ sym (next-comma _ _ rest (is-field (at-after .before)) (at-after .if2 .taken) (at-comma .if3 .taken));
-      keeps-body = λ e. more-is-not-wrong e;
-      keeps-rest = λ e. more-is-not-wrong e;
+      says = ap (more (inside read)) (part 1 rest) ∙ sym (next-comma _ _ rest (is-field (at-after .before)) (at-after .if2 .taken) (at-comma .if3 .taken));
+      keeps-body = λ e. impossible (cc);
+      keeps-rest = λ e. impossible (cc);
     }
 
 end-record-requires : tie.Need-end-record-requires
@@ -97,8 +98,8 @@ returns-4 c =
     let searched = c .before .end-record in
     record {
       says = sym (no-comma (c .before .before .before) ∙ the-end _ _ _ (searched .result) (searched .ensures .says) (not-false (searched .result) (c .if4 .left)));
-      keeps-body = λ e. last-is-not-wrong e;
-      keeps-rest = λ e. last-is-not-wrong e;
+      keeps-body = λ e. impossible (cc);
+      keeps-rest = λ e. impossible (cc);
     }
 
 pub next-field-spec : {M : Type 1} → statement M

@@ -35,8 +35,8 @@ plain c =
     (c .before .if1 .came)
 
 -- a quote comes first
-first : (c : tie.Else2) → (0 < length (bytes (c .before))) × (getD (bytes (c .before)) 0 0 ≡ 34)
-first c =
+quote-first : (c : tie.Else2) → (0 < length (bytes (c .before))) × (getD (bytes (c .before)) 0 0 ≡ 34)
+quote-first c =
     let is-quote = not-false (c .before .if1 .quoted) (c .if2 .left) in
     ⊎-elim
     (λ (some, known, e). (some .taken, eqb-true _ 34 (sym e ∙ is-quote)))
@@ -45,9 +45,9 @@ first c =
 
 quoted : (c : tie.Else2) → readField (bytes (c .before)) ≡ readQuoted (later (c .before))
 quoted c =
-    let f = first c in
+    let opens = quote-first c in
     let s = bytes (c .before) in
-    field-quoted s (f .0) (f .1) ∙ ap readQuoted (sym (part 1 s))
+    field-quoted s (opens .0) (opens .1) ∙ ap readQuoted (sym (part 1 s))
 
 shared-slice-read-quoted : tie.Need-shared-slice-read-quoted
 shared-slice-read-quoted c = search needs
@@ -80,10 +80,10 @@ returns c =
     }
 
 sub-t : tie.Need-sub-t
-sub-t c = let f = first c in omega arith
+sub-t c = let opens = quote-first c in omega arith
 
 part-t-start : tie.Need-part-t-start
-part-t-start c = let f = first c in omega arith
+part-t-start c = let opens = quote-first c in omega arith
 
 part-t-end : tie.Need-part-t-end
 part-t-end c = search needs

@@ -9,7 +9,7 @@ use Rattle.rules.specs.Numbers.{tableMost}
 use Rattle.rules.specs.Text.{writeSet}
 use Rattle.rules.specs.Table.{tableRefusal}
 use Rattle.rules.specs.declared.WriteAnswer.{WriteAnswer}
-use Rattle.rules.proofs.Calls.{refused-by, not-refused, in-bounds, write-refused, write-short, write-made}
+use Rattle.rules.proofs.Calls.{refused-by, not-refused, few-words, write-refused, write-short, write-made}
 use borrow.Author.Needs.{needs}
 use Rattle.writer.proofs.write.Statement.{statement}
 use Rattle.writer.proofs.write.Tie as tie
@@ -19,9 +19,7 @@ fine : (c : tie.After-enum-told) → tableRefusal (c .before .before .before .be
 fine c = not-refused _ (c .before .before .check-table .ensures) (c .enum-told .given .1)
 
 few : (c : tie.After-enum-told) → length (c .before .before .before .before .before .args .table .now) ≤ tableMost
-few c =
-    let bounds = in-bounds _ (c .before .before .check-table .ensures) (c .enum-told .given .1) in
-    omega (arith, bounds .words, bounds .most-tasks)
+few c = few-words _ (c .before .before .check-table .ensures) (c .enum-told .given .1)
 
 check-table-requires : tie.Need-check-table-requires
 check-table-requires c κs = search needs

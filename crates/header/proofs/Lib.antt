@@ -1,0 +1,3 @@
+-- Laws for the code that reads a header.
+pub mod Noting
+pub mod Columns

@@ -1,2 +1,0 @@
--- Laws of the writer's loop.
-mod Writing

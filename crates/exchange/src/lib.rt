@@ -152,7 +152,7 @@ fn read_table(source: Source, input: &[u8], table: &mut [u32]) -> ReadAnswer
     ensures { λ r. ⌜ Reads source (now (input .entry)) (now (table .entry)) r (now (table .exit)) ⌝ }
 {
     match source {
-        Source::Sheet => ReadAnswer::Refused(Refusal::TooShort),
+        Source::Sheet => sheet::read_sheet(input, table),
         Source::Text => {
             let mut code: u32 = 0;
             let mut number: u32 = 0;
@@ -168,7 +168,7 @@ fn write_table(source: Source, table: &[u32], out: &mut [u8]) -> WriteAnswer
 {
     match source {
         Source::Sheet => writer::write(table, out),
-        Source::Text => writer::write(table, out),
+        Source::Text => sheet::write_sheet(table, out),
     }
 }
 

@@ -45,7 +45,6 @@ pub mod WriteSteps
 pub mod LineTrips
 pub mod SetTrips
 pub mod Reading
-pub mod TextLengths
 -- sheets
 pub mod Records
 pub mod FieldSteps
@@ -57,6 +56,8 @@ pub mod SheetReading
 pub mod SheetWriting
 pub mod SheetTrips
 pub mod HeaderSteps
+-- how long texts and sheets can be, and the calls where there is room enough
+pub mod TextLengths
 pub mod Rooms
 -- the report and the program's output
 pub mod Printed

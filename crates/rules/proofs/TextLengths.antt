@@ -7,11 +7,12 @@ use mathlib.Core.List.{List, [], _∷_, _++_}
 use mathlib.Core.Option.{none}
 use lib.ListN.{length, getD, length-append}
 use Rattle.rules.specs.Table.{tableRefusal}
-use Rattle.rules.specs.Text.{bytes, digits, line, keyOf, writeLines, writeSet}
-use Rattle.rules.specs.Sheet.{crlf, afterWord, writeRecords, writeSheet}
+use Rattle.rules.specs.Text.{digits, line, keyOf, writeLines, writeSet}
+use Rattle.rules.specs.Sheet.{afterWord, writeRecords, writeSheet}
 use Rattle.rules.proofs.Tables.{valid-of}
 use Rattle.rules.proofs.Digits.{width-one, width-more}
 use Rattle.rules.proofs.WriteSteps.{line-length, key-length, set-length}
+use Rattle.rules.proofs.SheetWriting.{sheet-length}
 
 -- a number below 10 ^ (k + 1) has at most k + 1 digits
 width-most : (k v : ℕ) → v < 10 ^ 10 → v < 10 ^ suc k → length (digits v) ≤ suc k
@@ -86,13 +87,6 @@ module _ (ws : List ℕ) (e : tableRefusal ws ≡ none) where
 
   -- the sheet of a table: 35 bytes for the first line, and at most 25 for each of 64 records
   pub sheet-most : length (writeSheet ws) ≤ 1635
-  unfolding writeSheet
   sheet-most =
       let bounds = valid-of ws e in
-      omega (
-        arith,
-        length-append (bytes "execution,deadline,period,release" ++ crlf) (writeRecords 0 ws),
-        records-high 0 ws words-high,
-        bounds .words,
-        bounds .most-tasks,
-      )
+      omega (arith, sheet-length ws, records-high 0 ws words-high, bounds .words, bounds .most-tasks)

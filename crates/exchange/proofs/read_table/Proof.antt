@@ -1,11 +1,14 @@
 -- `exchange::read_table` meets its contract: each arm reads by the source that it has found, and no input has more words than there is room for.
-use Rattle.exchange.proofs.Becomes.{read-text}
+use Rattle.exchange.proofs.Becomes.{read-sheet, read-text}
 use borrow.Author.Needs.{needs}
 use Rattle.exchange.proofs.read_table.Statement.{statement}
 use Rattle.exchange.proofs.read_table.Tie as tie
 
 enum-told : tie.Need-enum-told
 enum-told c = search needs
+
+read-sheet-requires : tie.Need-read-sheet-requires
+read-sheet-requires c κs = search needs
 
 enum-told-2 : tie.Need-enum-told-2
 enum-told-2 c = search needs
@@ -16,11 +19,18 @@ read-requires c κs = search needs
 read-answer-requires : tie.Need-read-answer-requires
 read-answer-requires c κs = search needs
 
-returns : tie.Need-returns
-returns c = ?
-
 same-length : tie.Need-same-length
 same-length c = search needs
+
+returns : tie.Need-returns
+returns c =
+    let after-read = c .before .before in
+    let in-sheet = after-read .before .before in
+    let at-start = in-sheet .before .before .before .before in
+    rw (in-sheet .enum-told .given .1) (read-sheet _ _ (at-start .pre) (after-read .read-sheet .ensures))
+
+same-length-2 : tie.Need-same-length-2
+same-length-2 c = search needs
 
 returns-2 : tie.Need-returns-2
 returns-2 c =
@@ -34,9 +44,11 @@ read-table-spec =
     tie.close
     (tie.spec
     enum-told
+    read-sheet-requires
     enum-told-2
     read-requires
     read-answer-requires
-    returns
     same-length
+    returns
+    same-length-2
     returns-2)

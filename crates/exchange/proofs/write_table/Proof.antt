@@ -12,8 +12,8 @@ write-requires c κs = search needs
 enum-told-2 : tie.Need-enum-told-2
 enum-told-2 c = search needs
 
-write-requires-2 : tie.Need-write-requires-2
-write-requires-2 c κs = search needs
+write-sheet-requires : tie.Need-write-sheet-requires
+write-sheet-requires c κs = search needs
 
 same-length : tie.Need-same-length
 same-length c = search needs
@@ -27,7 +27,9 @@ same-length-2 : tie.Need-same-length-2
 same-length-2 c = search needs
 
 returns-2 : tie.Need-returns-2
-returns-2 c = ?
+returns-2 c =
+    let after-write = c .before .before in
+    rw (after-write .before .before .enum-told2 .given .1) (after-write .write-sheet .ensures)
 
 pub write-table-spec : {M : Type 1} → statement M
 write-table-spec =
@@ -36,7 +38,7 @@ write-table-spec =
     enum-told
     write-requires
     enum-told-2
-    write-requires-2
+    write-sheet-requires
     same-length
     returns
     same-length-2

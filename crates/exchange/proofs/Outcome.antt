@@ -36,9 +36,15 @@ counts : (outcome : Outcome) → countOf (answerOf outcome) ≡ length (bytesOf 
 counts (made vs) = refl
 counts (told vs) = refl
 
-pub gives-within : {outcome : Outcome} {out exit : List ℕ} {answer : Made} → Gives outcome out answer exit → countOf answer ≤ length exit
-gives-within {outcome} {out} g =
-    omega (arith, ap countOf (g .says), counts outcome, ap length (g .leaves), length-append (bytesOf outcome) (drop (length (bytesOf outcome)) out))
+pub gives-within : {outcome : Outcome} {out exit : List ℕ} {answer count : Made} → Gives outcome out answer exit → answer ≡ count → countOf count ≤ length exit
+gives-within {outcome} {out} g e =
+    omega (
+      arith,
+      ap countOf (sym e ∙ g .says),
+      counts outcome,
+      ap length (g .leaves),
+      length-append (bytesOf outcome) (drop (length (bytesOf outcome)) out),
+    )
 
 -- THE WORDS: some byte
 abbrev Worded : Source → Refusal → Type 0

@@ -142,8 +142,7 @@ fn tell_long(out: &mut [u8]) -> Made
     requires { ⌜ madeMost ≤ length (now out) ⌝ }
     ensures { λ r. ⌜ Gives (told tooLong) (now (out .entry)) r (now (out .exit)) ⌝ }
 {
-    let all = print::put_bytes(out, 0, b"tilecheck: the input has more than 32768 bytes\n");
-    Made::Told(all)
+    Made::Told(print::put_bytes(out, 0, b"tilecheck: the input has more than 32768 bytes\n"))
 }
 
 // The table of an input. There is room for 64 tasks, and no sheet or set has more.

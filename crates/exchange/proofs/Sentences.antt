@@ -6,10 +6,8 @@ use native.Mathlib.Omega.{arith}
 use denote.Enum.Declared.{tagOf}
 use types.Run.{OneOf, miss}
 use mathlib.Core.List.{List, [], _∷_, _++_}
-use mathlib.Core.Bool.{Bool, true, false}
 use lib.Dec.{eqb}
 use lib.ListN.{length, length-append}
-use Rattle.rules.specs.Choice.{if_then_else_}
 use Rattle.rules.specs.Refusals.{numberOf}
 use Rattle.rules.specs.Table.{wordLeast}
 use Rattle.rules.specs.Text.{bytes, digits}
@@ -17,10 +15,11 @@ use Rattle.rules.specs.Sheet.{nameOf}
 use Rattle.rules.specs.declared.Refusal.{Refusal}
 use Rattle.rules.specs.declared.Refusal.the-variants.{NoWord, NotFours, TooManyWords, OutOfRange, BadEnd, TooShort, BadLine, NotMisses, NoHeader, BadRecord, NoRecord}
 use Rattle.rules.proofs.Refusal.{the-type}
+use Rattle.rules.proofs.Booleans.{chosen}
 use Rattle.rules.proofs.Digits.{digits-most}
 use Rattle.print.specs.Place.{Puts}
 use Rattle.print.proofs.Putting.{put-start}
-use Rattle.exchange.specs.Exchange.{phrase, place, badRecord, wrong, sentence, told, madeMost, Gives}
+use Rattle.exchange.specs.Exchange.{phrase, place, badRecord, wrongIn, sentence, told, madeMost, Gives}
 use Rattle.exchange.specs.declared.Source.{Source}
 use Rattle.exchange.specs.declared.Made.{Made}
 
@@ -28,7 +27,7 @@ use Rattle.exchange.specs.declared.Made.{Made}
 abbrev pub others : List ℕ
 others = 0 ∷ 1 ∷ 2 ∷ 4 ∷ 5 ∷ 7 ∷ []
 
-pub no-words : (source : Source) (r : Refusal) → OneOf others (tagOf the-type r) → wrong source r ≡ []
+pub no-words : (source : Source) (r : Refusal) → OneOf others (tagOf the-type r) → wrongIn source r ≡ []
 no-words source NoWord t = refl
 no-words source NotFours t = refl
 no-words source TooManyWords t = refl
@@ -58,13 +57,11 @@ place-most Source.Sheet i =
 place-most Source.Text i = omega (arith, length-append (bytes "line ") (digits (i + 2)), digits-most (i + 2))
 
 record-most : (l : ℕ) → length (badRecord l) ≤ 64
-record-most l = by-number (eqb l 66)
-  where
-    by-number : (b : Bool) → length (if b then phrase "record " l " is one too many: a tile has at most 64 kernels" else phrase "record " l " is not as due") ≤ 64
-    by-number true = phrase-most "record " l " is one too many: a tile has at most 64 kernels"
-    by-number false = omega (arith, phrase-most "record " l " is not as due")
+record-most l =
+    chosen (λ (words : List ℕ). length words ≤ 64) (eqb l 66)
+    (phrase-most "record " l " is one too many: a tile has at most 64 kernels") (omega (arith, phrase-most "record " l " is not as due"))
 
-wrong-most : (source : Source) (r : Refusal) → length (wrong source r) ≤ 100
+wrong-most : (source : Source) (r : Refusal) → length (wrongIn source r) ≤ 100
 wrong-most source NoHeader = omega arith
 wrong-most source (BadRecord l) = omega (arith, record-most l)
 wrong-most source NoRecord = omega arith
@@ -83,7 +80,7 @@ wrong-most source NotMisses = omega arith
 pub sentence-most : (source : Source) (r : Refusal) → length (sentence source r) ≤ madeMost
 sentence-most source r =
     let number = phrase " (refusal " (numberOf r) ")\n" in
-    omega (arith, length-append (wrong source r) number, wrong-most source r, phrase-most " (refusal " (numberOf r) ")\n")
+    omega (arith, length-append (wrongIn source r) number, wrong-most source r, phrase-most " (refusal " (numberOf r) ")\n")
 
 -- bytes put at the start are told
 pub told-so : {old exit : List ℕ} {size : ℕ} (vs : List ℕ) → Puts old 0 vs size exit → Gives (told vs) old (Made.Told size) exit

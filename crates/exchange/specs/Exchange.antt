@@ -35,22 +35,22 @@ badRecord l =
     if eqb l 66 then phrase "record " l " is one too many: a tile has at most 64 kernels" else phrase "record " l " is not as due"
 
 -- what is wrong; a refusal without words is never told
-abbrev pub wrong : Source → Refusal → List ℕ
-wrong source NoHeader = bytes "the header must name execution, deadline, period and release once each"
-wrong source (BadRecord l) = badRecord l
-wrong source NoRecord = bytes "no record comes after the header"
-wrong source (OutOfRange i) = place source i ++ phrase " is out of its range, which is " (wordLeast i) " to 65535"
-wrong source (BadLine l) = phrase "line " l " is missing or not as due"
-wrong source NoWord = []
-wrong source NotFours = []
-wrong source TooManyWords = []
-wrong source BadEnd = []
-wrong source TooShort = []
-wrong source NotMisses = []
+abbrev pub wrongIn : Source → Refusal → List ℕ
+wrongIn source NoHeader = bytes "the header must name execution, deadline, period and release once each"
+wrongIn source (BadRecord l) = badRecord l
+wrongIn source NoRecord = bytes "no record comes after the header"
+wrongIn source (OutOfRange i) = place source i ++ phrase " is out of its range, which is " (wordLeast i) " to 65535"
+wrongIn source (BadLine l) = phrase "line " l " is missing or not as due"
+wrongIn source NoWord = []
+wrongIn source NotFours = []
+wrongIn source TooManyWords = []
+wrongIn source BadEnd = []
+wrongIn source TooShort = []
+wrongIn source NotMisses = []
 
 -- with the refusal's number
 abbrev pub numbered : Source → Refusal → List ℕ
-numbered source r = wrong source r ++ phrase " (refusal " (numberOf r) ")\n"
+numbered source r = wrongIn source r ++ phrase " (refusal " (numberOf r) ")\n"
 
 -- the line for a refusal
 abbrev pub sentence : Source → Refusal → List ℕ
@@ -101,7 +101,7 @@ abbrev pub InTable : Refusal → Type 0
 InTable r = (i : ℕ) → r ≡ OutOfRange i → i < tableMost
 
 -- the reading of an input into a table with room for 64 tasks
-pub record Reads (source : Source) (input table : List ℕ) (answer : ReadAnswer) (exit : List ℕ) : Type 0 where
+pub record ReadsTable (source : Source) (input table : List ℕ) (answer : ReadAnswer) (exit : List ℕ) : Type 0 where
   pub says : answer ≡ answering (readingRefusal source input) ReadAnswer.Refused (ReadAnswer.Set (length (wordsIn source input) / 4))
   pub leaves : exit ≡ lent (readingRefusal source input) (wordsIn source input) table
 
@@ -125,4 +125,4 @@ GivesOne = (outcome : Outcome) (out : List ℕ) (a b : Made) (e f : List ℕ) �
 
 -- every refusal that is told has words for what is wrong
 abbrev pub AllWorded : Type 0
-AllWorded = (source : Source) (input : List ℕ) (r : Refusal) → refusalOf source input ≡ some r → wrong source r ≡ [] → ⊥
+AllWorded = (source : Source) (input : List ℕ) (r : Refusal) → refusalOf source input ≡ some r → wrongIn source r ≡ [] → ⊥

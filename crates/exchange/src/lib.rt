@@ -7,7 +7,7 @@ ghost use Rattle.rules.specs.Text.{digits};
 ghost use Rattle.rules.specs.Sheet.{nameOf};
 ghost use Rattle.rules.specs.Calls.{Makes};
 ghost use Rattle.print.specs.Place.{Puts};
-ghost use Rattle.exchange.specs.Exchange.{place, badRecord, wrong, sentence, tooLong, exchanged, written, told, madeMost, InTable, Reads, Gives};
+ghost use Rattle.exchange.specs.Exchange.{place, badRecord, wrongIn, sentence, tooLong, exchanged, written, told, madeMost, InTable, ReadsTable, Gives};
 use rules::DEADLINE;
 use rules::EXECUTION;
 use rules::INPUT_MOST;
@@ -75,8 +75,8 @@ fn put_place(out: &mut [u8], at: usize, source: Source, i: u32) -> usize
 
 // That word i is out of its range is put at a place.
 fn put_out_of_range(out: &mut [u8], at: usize, source: Source, i: u32) -> usize
-    requires { ⌜ (i < tableMost) × (at + length (wrong source (Refusal.OutOfRange i)) ≤ length (now out)) ⌝ }
-    ensures { λ r. ⌜ Puts (now (out .entry)) at (wrong source (Refusal.OutOfRange i)) r (now (out .exit)) ⌝ }
+    requires { ⌜ (i < tableMost) × (at + length (wrongIn source (Refusal.OutOfRange i)) ≤ length (now out)) ⌝ }
+    ensures { λ r. ⌜ Puts (now (out .entry)) at (wrongIn source (Refusal.OutOfRange i)) r (now (out .exit)) ⌝ }
 {
     let after_place = put_place(out, at, source, i);
     let least = table::word_least(i as usize);
@@ -108,8 +108,8 @@ fn put_bad_record(out: &mut [u8], at: usize, l: u32) -> usize
 
 // What is wrong is put at a place.
 fn put_wrong(out: &mut [u8], at: usize, source: Source, refusal: Refusal) -> usize
-    requires { ⌜ InTable refusal × (at + length (wrong source refusal) ≤ length (now out)) ⌝ }
-    ensures { λ r. ⌜ Puts (now (out .entry)) at (wrong source refusal) r (now (out .exit)) ⌝ }
+    requires { ⌜ InTable refusal × (at + length (wrongIn source refusal) ≤ length (now out)) ⌝ }
+    ensures { λ r. ⌜ Puts (now (out .entry)) at (wrongIn source refusal) r (now (out .exit)) ⌝ }
 {
     match refusal {
         Refusal::NoHeader => print::put_bytes(
@@ -125,7 +125,7 @@ fn put_wrong(out: &mut [u8], at: usize, source: Source, refusal: Refusal) -> usi
     }
 }
 
-// A refusal is told at the start of out: what is wrong, and the refusal's number.
+// A refusal is told at the start of out: what is wrongIn, and the refusal's number.
 fn tell(out: &mut [u8], source: Source, refusal: Refusal) -> Made
     requires { ⌜ (madeMost ≤ length (now out)) × InTable refusal ⌝ }
     ensures { λ r. ⌜ Gives (told (sentence source refusal)) (now (out .entry)) r (now (out .exit)) ⌝ }
@@ -148,7 +148,7 @@ fn tell_long(out: &mut [u8]) -> Made
 // The table of an input. There is room for 64 tasks, and no sheet or set has more.
 fn read_table(source: Source, input: &[u8], table: &mut [u32]) -> ReadAnswer
     requires { ⌜ tableMost ≤ length (now table) ⌝ }
-    ensures { λ r. ⌜ Reads source (now (input .entry)) (now (table .entry)) r (now (table .exit)) ⌝ }
+    ensures { λ r. ⌜ ReadsTable source (now (input .entry)) (now (table .entry)) r (now (table .exit)) ⌝ }
 {
     match source {
         Source::Sheet => sheet::read_sheet(input, table),

@@ -1,4 +1,4 @@
--- Tests joined by "and", read and made; of two numbers one order or the other.
+-- Tests joined by "and", read and made; the choice by a test; of two numbers one order or the other.
 use mathlib.Core.Path.{_≡_, refl}
 use mathlib.Core.Logic.{_⊎_, inl, inr}
 use Prim.Native.Nat.{ℕ, _≤_, _<_}
@@ -8,6 +8,7 @@ use native.Mathlib.Omega.{arith}
 use mathlib.Core.Bool.{Bool, true, false, _&&_}
 use lib.Dec.{leb, ltb}
 use borrow.Author.Tests.{le-leb, ltb-false}
+use Rattle.rules.specs.Choice.{if_then_else_}
 
 pub true-is-not-false : {A : Type 0} → _≡_ {A = Bool} true false → A
 true-is-not-false e = let z : _≡_ {A = ℕ} 0 1 = cc in absurd (omega arith)
@@ -21,6 +22,11 @@ both-true false b e = (e, (cc))
 
 pub both-false : (a b : Bool) → a && b ≡ false → a ≡ true → b ≡ true → ⊥
 both-false a b e p q = true-is-not-false (rw (p, q) at e)
+
+-- what holds of two holds of the one that a test chooses
+pub chosen : {X : Type 0} (P : X → Type 0) (t : Bool) {x y : X} → P x → P y → P (if t then x else y)
+chosen P true p q = p
+chosen P false p q = q
 
 -- of two numbers, by the tests
 pub lt-or-ge : (a b : ℕ) → (ltb a b ≡ true) ⊎ (leb b a ≡ true)

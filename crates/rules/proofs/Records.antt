@@ -13,7 +13,7 @@ use Rattle.rules.specs.Choice.{if_then_else_}
 use Rattle.rules.specs.Text.{got, bad, afterKey, digit, moreDigits, readNumber}
 use Rattle.rules.specs.Sheet.{mark, Field, content, noField, byte, readPlain, readQuoted, afterQuote, readField, afterEnd, Step, more, last, noStep, lastOf, followed, nextField, Record, fields, noRecord, before, onward, recordWithin, readRecord, nameOf, noneLeft, isName, whole, fieldNumber}
 use Rattle.rules.specs.Sheets.{doubled}
-use Rattle.rules.proofs.Booleans.{true-is-not-false, both-true}
+use Rattle.rules.proofs.Booleans.{true-is-not-false, both-true, chosen}
 use Rattle.rules.proofs.ReadSteps.{digit-range}
 
 -- how many bytes a field leaves
@@ -28,8 +28,7 @@ left-byte b noField = refl
 
 -- one of two fields leaves no more than a list has
 either : (t : Bool) (f g : Field) {n : ℕ} → left f ≤ n → left g ≤ n → left (if t then f else g) ≤ n
-either true f g h k = h
-either false f g h k = k
+either t f g {n} h k = chosen (λ (x : Field). left x ≤ n) t h k
 
 plain-left : (s : List ℕ) → left (readPlain s) ≤ length s
 unfolding left readPlain

@@ -1,5 +1,5 @@
 -- The readers and writers where there is room enough: none is refused for want of it, and what is read is four words a task.
-use mathlib.Core.Path.{_≡_, refl}
+use mathlib.Core.Path.{_≡_, refl, ap}
 use Prim.Native.Nat.{ℕ, _*_, _/_, _≤_, _<_}
 use native.Mathlib.Omega.{arith}
 use mathlib.Core.List.{List, [], _∷_}
@@ -89,3 +89,14 @@ write-with-room {make} table out room = by-refusal (tableRefusal table) refl
         → Makes make table out (answering o WriteAnswer.Refused (WriteAnswer.Written (length (make table)))) (lent o (make table) out)
     by-refusal (some r) e = write-refused table out r e
     by-refusal none e = write-made table out e (room e)
+
+-- AN ANSWER is a refusal where one is given, and a result where none is
+module _ {X : Type 0} (refused : Refusal → X) (result : X) where
+  pub was-refused : ((r : Refusal) → refused r ≡ result → ⊥) → ((r s : Refusal) → refused r ≡ refused s → s ≡ r)
+      → (o : Option Refusal) (r : Refusal) → refused r ≡ answering o refused result → o ≡ some r
+  was-refused other one none r e = absurd (other r e)
+  was-refused other one (some s) r e = ap some (one r s e)
+
+  pub was-done : (x : X) → ((r : Refusal) → x ≡ refused r → ⊥) → (o : Option Refusal) → x ≡ answering o refused result → (o ≡ none) × (x ≡ result)
+  was-done x other none e = (refl, e)
+  was-done x other (some r) e = absurd (other r e)

@@ -4,7 +4,7 @@ use native.Mathlib.Omega.{arith}
 use lib.ListN.{length}
 use Rattle.rules.specs.Text.{bytes}
 use Rattle.print.proofs.Parts.{first-fits, second-fits, both}
-use Rattle.exchange.specs.Exchange.{wrong, numbered, sentence}
+use Rattle.exchange.specs.Exchange.{wrongIn, numbered, sentence}
 use Rattle.exchange.proofs.Sentences.{sentence-most, told-so}
 use borrow.Author.Needs.{needs}
 use Rattle.exchange.proofs.tell.Statement.{statement}
@@ -35,7 +35,7 @@ put-wrong-requires c κs =
     let after-name = c .before .before .before in
     let at-start = after-name .before .before .before .before in (
       at-start .pre .1,
-      first-fits (after-name .put-bytes .last .0) (after-name .put-bytes .result) (wrong (at-start .args .source) (at-start .args .refusal)) _ (rest-fits after-name),
+      first-fits (after-name .put-bytes .last .0) (after-name .put-bytes .result) (wrongIn (at-start .args .source) (at-start .args .refusal)) _ (rest-fits after-name),
     )
 
 refusal-number-requires : tie.Need-refusal-number-requires

@@ -27,14 +27,14 @@ left-byte b (content c s) = refl
 left-byte b noField = refl
 
 -- one of two fields leaves no more than a list has
-either : (t : Bool) {f g : Field} {n : ℕ} → left f ≤ n → left g ≤ n → left (if t then f else g) ≤ n
-either true h k = h
-either false h k = k
+either : (t : Bool) (f g : Field) {n : ℕ} → left f ≤ n → left g ≤ n → left (if t then f else g) ≤ n
+either true f g h k = h
+either false f g h k = k
 
 plain-left : (s : List ℕ) → left (readPlain s) ≤ length s
 unfolding left readPlain
 plain-left [] = omega arith
-plain-left (b ∷ s) = either (mark b) (omega arith) (omega (arith, left-byte b (readPlain s), plain-left s))
+plain-left (b ∷ s) = either (mark b) _ _ (omega arith) (omega (arith, left-byte b (readPlain s), plain-left s))
 
 mutual
   unfolding left readQuoted
@@ -42,17 +42,17 @@ mutual
   quoted-left : (s : List ℕ) → left (readQuoted s) ≤ length s
   quoted-left [] = omega arith
   quoted-left (b ∷ s) =
-      either (eqb b 34) (omega (arith, quote-left s)) (omega (arith, left-byte b (readQuoted s), quoted-left s))
+      either (eqb b 34) _ _ (omega (arith, quote-left s)) (omega (arith, left-byte b (readQuoted s), quoted-left s))
 
   quote-left : (s : List ℕ) → left (afterQuote s) ≤ length s
   quote-left [] = omega arith
   quote-left (b ∷ s) =
-      either (eqb b 34) (omega (arith, left-byte b (readQuoted s), quoted-left s)) (omega arith)
+      either (eqb b 34) _ _ (omega (arith, left-byte b (readQuoted s), quoted-left s)) (omega arith)
 
 field-left : (s : List ℕ) → left (readField s) ≤ length s
 unfolding left readField
 field-left [] = omega arith
-field-left (b ∷ s) = either (eqb b 34) (omega (arith, quoted-left s)) (plain-left (b ∷ s))
+field-left (b ∷ s) = either (eqb b 34) _ _ (omega (arith, quoted-left s)) (plain-left (b ∷ s))
 
 -- the bytes after a comma are fewer than those before the field
 pub more-shorter : (s c t : List ℕ) → nextField s ≡ more c t → length t < length s

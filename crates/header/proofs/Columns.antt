@@ -2,13 +2,13 @@
 use mathlib.Core.Path.{_≡_, refl, sym, ap, _∙_}
 use Prim.Native.Nat.{ℕ, _+_, _≤_, _<_}
 use native.Mathlib.Omega.{arith}
-use mathlib.Core.List.{List, [], _∷_, _++_, append-nil}
+use mathlib.Core.List.{List, [], _∷_, _++_}
 use mathlib.Core.Bool.{true, false, not}
 use lib.Dec.{eqb}
 use lib.ListN.{length, getD, length-append, getD-replicate}
 use Rattle.rules.specs.Sheet.{Record, fields, noRecord, before, readRecord, nameOf, isName, times, columnFrom, goodHeader, columnsOf, readSheet, noHeader}
 use Rattle.rules.specs.Sheets.{doubled}
-use Rattle.rules.proofs.Records.{befores, befores-none, befores-more, befores-fields, befores-nothing, name-standing}
+use Rattle.rules.proofs.Records.{befores, befores-none, befores-more, befores-all, befores-nothing, name-standing}
 use Rattle.rules.proofs.HeaderSteps.{unnamed, times-none, first-more, once-more, twice-more, once-named, good-by, columns-are, no-record, bad-header, not-both, name-twice}
 use Rattle.header.specs.Headers.{Notes, allNamed, Heads, bad, good, HeadsOne}
 
@@ -92,7 +92,7 @@ module _ {s columns : List ℕ} {count : ℕ} where
   -- no field is left
   module _ {u : List ℕ} (all : Headed s (fields [] u) count columns) where
     whole : readRecord s ≡ fields (all .contents) u
-    whole = sym (all .reads) ∙ befores-fields (all .contents) [] u ∙ ap (λ (hs : List (List ℕ)). fields hs u) (append-nil (all .contents))
+    whole = sym (all .reads) ∙ befores-all (all .contents) u
 
     pub headed-bad : allNamed columns ≡ false → readSheet s ≡ noHeader
     headed-bad missing = bad-header s (all .contents) u whole (good-is (all .contents) columns (all .noted) ∙ missing)

@@ -24,6 +24,7 @@ module _ (body : List ℕ) (column : ℕ) (old : List ℕ) where
   none-yet = record { same = refl; notes = λ i h. absurd (omega arith); new = λ i h. absurd (omega arith); keeps = λ i h. refl }
 
   module _ (k : ℕ) (columns : List ℕ) (so-far : Noting body column old k columns) where
+    -- the next is looked at, and only it may change
     one-more : (next : List ℕ) → length next ≡ length columns → ((i : ℕ) → (i ≡ k → ⊥) → getD next i 0 ≡ getD columns i 0)
         → getD next k 0 ≡ (if isName (nameOf k) body then column else getD old k 0) → (isName (nameOf k) body ≡ true → getD old k 0 ≡ 0)
         → Noting body column old (k + 1) next
@@ -40,16 +41,16 @@ module _ (body : List ℕ) (column : ℕ) (old : List ℕ) where
 
     -- the next is the name, and has no column yet
     pub the-name : k < length columns → isName (nameOf k) body ≡ true → getD columns k 0 ≡ 0 → Noting body column old (k + 1) (set columns k column)
-    the-name h is none =
-        one-more (set columns k column) (length-set columns k column) (λ i n. getD-set-other columns k i column 0 n) (rw is (getD-set-same columns k column 0 h)) (λ e. sym (so-far .keeps k (omega arith)) ∙ none)
+    the-name h is free =
+        one-more (set columns k column) (length-set columns k column) (λ i n. getD-set-other columns k i column 0 n) (rw is (getD-set-same columns k column 0 h)) (λ e. sym (so-far .keeps k (omega arith)) ∙ free)
 
     -- the next is the name, and has a column
     pub noted-before : k < 4 → isName (nameOf k) body ≡ true → (getD columns k 0 ≡ 0 → ⊥) → Notes body column old false columns
-    noted-before h is some = record {
+    noted-before h is taken = record {
       four = so-far .same;
       notes = λ e. true-is-not-false (sym e);
       new = λ e. true-is-not-false (sym e);
-      twice = λ e. (k, h, is, λ z. some (so-far .keeps k (omega arith) ∙ z));
+      twice = λ e. (k, h, is, λ z. taken (so-far .keeps k (omega arith) ∙ z));
     }
 
     -- all are looked at

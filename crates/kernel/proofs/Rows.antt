@@ -2,7 +2,7 @@
 use mathlib.Core.Path.{_≡_, refl, sym, ap, _∙_}
 use Prim.Native.Nat.{ℕ, _+_, _-_, _≤_, _<_}
 use native.Mathlib.Omega.{arith}
-use mathlib.Core.List.{List, [], _∷_, _++_, append-nil}
+use mathlib.Core.List.{List, [], _∷_, _++_}
 use mathlib.Core.Bool.{Bool, true, false}
 use mathlib.Core.Option.{some}
 use lib.ListN.{length, getD, length-append, List·getD-append}
@@ -10,7 +10,7 @@ use lib.Seq.{getD-at}
 use Rattle.rules.specs.Sheet.{Record, fields, noRecord, before, fieldNumber, row, noRow, readRow}
 use Rattle.rules.specs.Sheets.{doubled}
 use Rattle.rules.proofs.Booleans.{split}
-use Rattle.rules.proofs.Records.{befores, befores-none, befores-more, befores-fields, befores-nothing, number-standing}
+use Rattle.rules.proofs.Records.{befores, befores-none, befores-more, befores-all, befores-nothing, number-standing}
 use Rattle.rules.proofs.RowSteps.{row-none, row-other, row-right, row-wrong}
 use Rattle.kernel.specs.Kernels.{Stores, Within}
 
@@ -89,11 +89,7 @@ module _ (due : Record) (columns : List ℕ) (count : ℕ) (in-header : Within c
     -- the record ends
     module _ (rest : List ℕ) (end : here ≡ fields [] rest) where
       ended : due ≡ fields (so-far .contents) rest
-      ended =
-          sym (so-far .reads)
-          ∙ ap (befores (so-far .contents)) end
-          ∙ befores-fields (so-far .contents) [] rest
-          ∙ ap (λ (cs : List (List ℕ)). fields cs rest) (append-nil (so-far .contents))
+      ended = sym (so-far .reads) ∙ ap (befores (so-far .contents)) end ∙ befores-all (so-far .contents) rest
 
       -- with another number of fields than the header
       pub miscounted : (n ≡ count → ⊥) → readRow count columns due ≡ noRow

@@ -89,13 +89,14 @@ pub fn read_kernels(s: &[u8], columns: &[usize; 4], count: usize, words: &mut [u
     let mut t = s;
     let mut n: usize = 0;
     while t.len() > 0 {
+        let record = (n + 2) as u32;
         if n == TASK_MOST {
-            return Kernels::Wrong((n + 2) as u32);
+            return Kernels::Wrong(record);
         }
         let mut u = t;
         let taken = read_kernel(t, columns, count, &mut words[4 * n..4 * n + 4], &mut u);
         if !taken {
-            return Kernels::Wrong((n + 2) as u32);
+            return Kernels::Wrong(record);
         }
         t = u;
         n += 1;

@@ -3,7 +3,7 @@
 use mathlib.Core.Path.{_≡_, refl, sym, ap, _∙_}
 use Prim.Native.Nat.{ℕ, zero, suc, _+_, _-_, _*_, _≤_, _<_}
 use native.Mathlib.Omega.{arith}
-use mathlib.Core.List.{List, [], _∷_, _++_}
+use mathlib.Core.List.{List, [], _∷_, _++_, append-nil}
 use mathlib.Core.Bool.{Bool, true, false, not, _&&_}
 use mathlib.Core.Option.{Option, none, some}
 use lib.Dec.{eqb}
@@ -34,7 +34,7 @@ either false f g h k = k
 plain-left : (s : List ℕ) → left (readPlain s) ≤ length s
 unfolding left readPlain
 plain-left [] = omega arith
-plain-left (b ∷ s) = either (mark b) (content [] (b ∷ s)) (byte b (readPlain s)) (omega arith) (omega (arith, left-byte b (readPlain s), plain-left s))
+plain-left (b ∷ s) = either (mark b) _ _ (omega arith) (omega (arith, left-byte b (readPlain s), plain-left s))
 
 mutual
   unfolding left readQuoted
@@ -42,17 +42,17 @@ mutual
   quoted-left : (s : List ℕ) → left (readQuoted s) ≤ length s
   quoted-left [] = omega arith
   quoted-left (b ∷ s) =
-      either (eqb b 34) (afterQuote s) (byte b (readQuoted s)) (omega (arith, quote-left s)) (omega (arith, left-byte b (readQuoted s), quoted-left s))
+      either (eqb b 34) _ _ (omega (arith, quote-left s)) (omega (arith, left-byte b (readQuoted s), quoted-left s))
 
   quote-left : (s : List ℕ) → left (afterQuote s) ≤ length s
   quote-left [] = omega arith
   quote-left (b ∷ s) =
-      either (eqb b 34) (byte b (readQuoted s)) (content [] (b ∷ s)) (omega (arith, left-byte b (readQuoted s), quoted-left s)) (omega arith)
+      either (eqb b 34) _ _ (omega (arith, left-byte b (readQuoted s), quoted-left s)) (omega arith)
 
 field-left : (s : List ℕ) → left (readField s) ≤ length s
 unfolding left readField
 field-left [] = omega arith
-field-left (b ∷ s) = either (eqb b 34) (readQuoted s) (readPlain (b ∷ s)) (omega (arith, quoted-left s)) (plain-left (b ∷ s))
+field-left (b ∷ s) = either (eqb b 34) _ _ (omega (arith, quoted-left s)) (plain-left (b ∷ s))
 
 -- the bytes after a comma are fewer than those before the field
 pub more-shorter : (s c t : List ℕ) → nextField s ≡ more c t → length t < length s
@@ -120,6 +120,10 @@ pub befores-fields : (cs ds : List (List ℕ)) (s : List ℕ) → befores cs (fi
 unfolding befores before
 befores-fields [] ds s = refl
 befores-fields (c ∷ cs) ds s = ap (before c) (befores-fields cs ds s)
+
+-- where no field is left
+pub befores-all : (cs : List (List ℕ)) (s : List ℕ) → befores cs (fields [] s) ≡ fields cs s
+befores-all cs s = befores-fields cs [] s ∙ ap (λ (ds : List (List ℕ)). fields ds s) (append-nil cs)
 
 pub befores-nothing : (cs : List (List ℕ)) → befores cs noRecord ≡ noRecord
 unfolding befores before

@@ -27,6 +27,7 @@ mul-if2 c = search needs
 element-copy-out-if2 : tie.Need-element-copy-out-if2 Inv-loop μ-loop
 element-copy-out-if2 c = search needs
 
+-- it has a column already
 returns : tie.Need-returns Inv-loop μ-loop
 returns c =
     let asked = c .before .before .before .is-column in
@@ -54,6 +55,7 @@ loop-again c =
     (λ other. rw (other .1) (other-name _ _ _ _ _ (at-loop .loop .inv) (sym (asked .ensures) ∙ other .0 .left)))
     (c .if1 .came)
 
+-- all four are looked at
 returns-2 : tie.Need-returns-2 Inv-loop μ-loop
 returns-2 c = all-noted _ _ _ _ _ (c .before .loop .inv) (omega arith)
 

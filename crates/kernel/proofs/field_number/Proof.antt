@@ -1,6 +1,7 @@
 -- `kernel::field_number` meets its contract: the number at the start of the bytes is theirs where nothing is left after it.
 use mathlib.Core.Path.{_≡_, sym}
 use Prim.Native.Nat.{ℕ}
+use native.Mathlib.Omega.{arith}
 use mathlib.Core.List.{List}
 use lib.ListN.{length}
 use Rattle.rules.specs.Text.{readNumber}
@@ -31,13 +32,13 @@ read-number-requires c κs = search needs
 returns : tie.Need-returns
 returns c =
     let found = c .before .read-number in
-    more-left _ (found .last .1 .0 .now) (found .result) (found .ensures .says) (c .if1 .taken)
+    more-left _ (found .last .1 .0 .now) (found .result) (found .ensures .says) (λ e. omega arith)
 
 -- nothing does
 returns-2 : tie.Need-returns-2
 returns-2 c =
     let found = c .before .read-number in
-    none-left _ (found .last .1 .0 .now) (found .result) (found .ensures .says) (c .if1 .left)
+    none-left _ (found .last .1 .0 .now) (found .result) (found .ensures .says) (omega arith)
 
 pub field-number-spec : {M : Type 1} → statement M
 field-number-spec = tie.close (tie.spec read-number-requires returns returns-2)

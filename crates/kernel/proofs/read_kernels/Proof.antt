@@ -31,22 +31,23 @@ row-is c b e = rw (← e) (sym (c .read-kernel .ensures .says))
 loop-holds : tie.Need-loop-holds Inv-loop μ-loop
 loop-holds c = (omega arith, c .before .before .pre .0, ahead-none _)
 
-add-t11 : tie.Need-add-t11 Inv-loop μ-loop
-add-t11 c = search needs
+add-record : tie.Need-add-record Inv-loop μ-loop
+add-record c = search needs
 
-cast-t12 : tie.Need-cast-t12 Inv-loop μ-loop
-cast-t12 c = search needs
+cast-record : tie.Need-cast-record Inv-loop μ-loop
+cast-record c = search needs
 
 same-length : tie.Need-same-length Inv-loop μ-loop
 same-length c = search needs
 
+-- a record too many
 returns : tie.Need-returns Inv-loop μ-loop
 returns c =
     let at-loop = c .before .before in
     record {
       long = at-loop .loop .inv .1;
       counted = tt;
-      says = sym (tasks-full _ _ _ _ _ (c .before .loop-test .taken) (c .if1 .taken)) ∙ at-loop .loop .inv .2;
+      says = sym (tasks-full _ _ _ _ _ (omega arith) (omega arith)) ∙ at-loop .loop .inv .2;
     }
 
 mul-read-kernel : tie.Need-mul-read-kernel Inv-loop μ-loop
@@ -73,15 +74,10 @@ part-read-kernel-end c = search needs
 read-kernel-requires : tie.Need-read-kernel-requires Inv-loop μ-loop
 read-kernel-requires c κs = search needs
 
-add-t21 : tie.Need-add-t21 Inv-loop μ-loop
-add-t21 c = search needs
-
-cast-t22 : tie.Need-cast-t22 Inv-loop μ-loop
-cast-t22 c = search needs
-
 same-length-2 : tie.Need-same-length-2 Inv-loop μ-loop
 same-length-2 c = search needs
 
+-- a record is not as due
 returns-2 : tie.Need-returns-2 Inv-loop μ-loop
 returns-2 c =
     let at-loop = c .before .before .before .before .before .before .before .before in
@@ -112,6 +108,7 @@ loop-again c =
 same-length-3 : tie.Need-same-length-3 Inv-loop μ-loop
 same-length-3 c = search needs
 
+-- the end of the sheet
 returns-3 : tie.Need-returns-3 Inv-loop μ-loop
 returns-3 c =
     let at-loop = c .before in
@@ -128,8 +125,8 @@ read-kernels-spec =
     Inv-loop
     μ-loop
     loop-holds
-    add-t11
-    cast-t12
+    add-record
+    cast-record
     same-length
     returns
     mul-read-kernel
@@ -140,8 +137,6 @@ read-kernels-spec =
     part-read-kernel-start
     part-read-kernel-end
     read-kernel-requires
-    add-t21
-    cast-t22
     same-length-2
     returns-2
     add-n

@@ -37,6 +37,7 @@ enum-told c = search needs
 same-length : tie.Need-same-length Inv-loop μ-loop
 same-length c = search needs
 
+-- no number where one is due
 returns : tie.Need-returns Inv-loop μ-loop
 returns c =
     let at-loop = c .before .before .before .before .before .before in
@@ -73,6 +74,7 @@ loop-again c =
 same-length-2 : tie.Need-same-length-2 Inv-loop μ-loop
 same-length-2 c = search needs
 
+-- all four are looked at
 returns-2 : tie.Need-returns-2 Inv-loop μ-loop
 returns-2 c =
     let so-far = c .before .loop .inv in

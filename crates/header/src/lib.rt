@@ -12,7 +12,7 @@ use rules::PERIOD;
 use rules::RELEASE;
 
 // Whether bytes are a name.
-fn is_name(body: &[u8], name: &[u8]) -> bool
+pub fn is_name(body: &[u8], name: &[u8]) -> bool
     ensures { λ r. ⌜ r ≡ isName (now (name .entry)) (now (body .entry)) ⌝ }
 {
     let mut rest = body;

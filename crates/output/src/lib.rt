@@ -3,10 +3,8 @@ ghost use Prim.Native.Nat.{_≤_};
 ghost use lib.ListN.{length};
 ghost use Rattle.rules.specs.Numbers.{inputMost};
 ghost use Rattle.output.specs.Output.{outputMost, Outputs};
+use rules::INPUT_MOST;
 use rules::ReportAnswer;
-
-// The longest input that is read set by set.
-pub const INPUT_MOST: usize = 32768;
 
 // The most bytes that are printed: a set takes 24 bytes of the input at least, so there are at most 1,366.
 pub const OUTPUT_MOST: usize = 1366 * report::LINES_MOST;

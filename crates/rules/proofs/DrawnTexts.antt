@@ -1,60 +1,28 @@
 -- Sets drawn one after another and their texts: how long one can be, how code makes them, that the check reads them in turn, and that they can be made
 -- in pieces.
 use mathlib.Core.Path.{_≡_, refl, sym, ap, _∙_}
-use Prim.Native.Nat.{ℕ, zero, suc, _+_, _*_, _/_, _%_, _^_, _≤_, _<_}
+use Prim.Native.Nat.{ℕ, zero, suc, _+_, _*_, _/_, _≤_}
 use native.Mathlib.Nat.{zero-add, add-zero}
-use native.Mathlib.Decide.{decLt}
 use native.Mathlib.Omega.{arith}
-use mathlib.Core.List.{List, [], _∷_, _++_, append-assoc}
-use mathlib.Core.Option.{none}
-use lib.ListN.{length, take, drop, getD, length-append}
+use mathlib.Core.List.{List, [], _++_, append-assoc}
+use lib.ListN.{length, take, drop}
 use lib.Seq.{take-at}
-use Rattle.rules.specs.Table.{tableRefusal}
-use Rattle.rules.specs.Text.{took, readSet, digits, line, keyOf, writeLines, writeSet}
+use Rattle.rules.specs.Text.{took, readSet, writeSet}
 use Rattle.rules.specs.Generator.{countDrawn, wordsDrawn, stateAfterSet, stateAfterSets, DrawsSet, generated}
 use Rattle.rules.specs.declared.ReadAnswer.{ReadAnswer}
-use Rattle.rules.proofs.Tables.{valid-of}
-use Rattle.rules.proofs.Digits.{width-one, width-more}
-use Rattle.rules.proofs.WriteSteps.{line-length, key-length, set-length}
+use Rattle.rules.proofs.Digits.{width-one}
 use Rattle.rules.proofs.SetTrips.{write-then-read}
+use Rattle.rules.proofs.TextLengths.{text-high}
 use Rattle.rules.proofs.Drawn.{count-high, length-wordsDrawn, set-given}
 use Rattle.rules.proofs.DrawnFine.{drawn-fine}
 
--- a number below 10 ^ (k + 1) has at most k + 1 digits
-width-most : (k v : ℕ) → v < 10 ^ 10 → v < 10 ^ suc k → length (digits v) ≤ suc k
-width-most zero v l h = omega (arith, width-one v (omega arith))
-width-most (suc k) v l h = choose (decLt v 10) (width-most k (v / 10) (omega arith) (omega arith))
-  where
-    choose : Dec (v < 10) → length (digits (v / 10)) ≤ suc k → length (digits v) ≤ suc (suc k)
-    choose (yes a) ih = omega (arith, width-one v a)
-    choose (no a) ih = omega (arith, width-more v (omega arith) (omega arith))
-
--- the lines of words up to 65,535: at most 8 bytes each
-lines-high : (k : ℕ) (ws : List ℕ) → ((i : ℕ) → i < length ws → getD ws i 0 ≤ 65535) → length (writeLines k ws) ≤ 8 * length ws
-unfolding writeLines
-lines-high k [] h = omega arith
-lines-high k (w ∷ ws) h =
-    let first : w ≤ 65535 = h 0 (omega arith) in
-    let l = line (keyOf (k % 4)) (digits w) in
-    omega (
-      arith,
-      length-append l (writeLines (suc k) ws),
-      line-length (keyOf (k % 4)) (digits w),
-      key-length (k % 4),
-      width-most 4 w (omega arith) (omega arith),
-      lines-high (suc k) ws (λ i g. h (suc i) (omega arith)),
-    )
-
--- the text of a table of up to eight tasks: its first line has 8 bytes, and there are at most 32 others
-text-high : (ws : List ℕ) → tableRefusal ws ≡ none → length ws ≤ 32 → length (writeSet ws) ≤ 264
-text-high ws e h =
-    let bounds = valid-of ws e in
-    let lines = lines-high 0 ws (λ i g. bounds .high i (omega (arith, bounds .words))) in
-    omega (arith, set-length ws, width-one (length ws / 4) (omega arith), lines)
-
--- so for the text of a set drawn
+-- the text of a set drawn: its first line has 8 bytes, and there are at most 32 others
 pub text-length : (number s : ℕ) → length (writeSet (wordsDrawn number s)) ≤ 264
-text-length number s = text-high (wordsDrawn number s) (drawn-fine number s) (omega (arith, length-wordsDrawn number s, count-high s))
+text-length number s =
+    let ws = wordsDrawn number s in
+    let few = count-high s in
+    let words = length-wordsDrawn number s in
+    omega (arith, text-high ws (drawn-fine number s), width-one (length ws / 4) (omega arith))
 
 -- A SET is drawn into a table with room for eight tasks
 module _ {s number : ℕ} {table : List ℕ} {answer : ReadAnswer} {after : ℕ} {exit : List ℕ} (room : 32 ≤ length table)

@@ -56,6 +56,9 @@ pub mod SheetReading
 pub mod SheetWriting
 pub mod SheetTrips
 pub mod HeaderSteps
+-- how long texts and sheets can be, and the calls where there is room enough
+pub mod TextLengths
+pub mod Rooms
 -- the report and the program's output
 pub mod Printed
 pub mod Lengths

@@ -1,6 +1,9 @@
 // What the calls take and answer, the keys of a text's lines, and the names of a sheet's columns. The documents as definitions over these types
 // stand in specs/.
 
+// The longest input of the programs, in bytes.
+pub const INPUT_MOST: usize = 32768;
+
 // The key of the first line.
 pub const TASKS_KEY: [u8; 6] = *b"tasks=";
 

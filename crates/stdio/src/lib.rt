@@ -1,8 +1,9 @@
-// Standard input read to its end, and standard output written whole, however many calls that takes.
+// Standard input read to its end, and standard output written whole, however many calls that takes; what failed is told on standard error.
 ghost use Prim.Native.Nat.{_≤_, _<_};
 ghost use lib.ListN.{length};
 ghost use Rattle.rules.specs.Numbers.{inputMost};
 ghost use Rattle.stdio.specs.Input.{Within};
+use libc::STDERR_FILENO;
 use libc::STDIN_FILENO;
 use libc::STDOUT_FILENO;
 
@@ -83,4 +84,35 @@ pub fn write_output(bytes: &[u8]) -> usize
         }
     }
     at
+}
+
+// A number on standard error.
+pub fn tell_count(n: usize) {
+    io::print_decimal(STDERR_FILENO, n as u64);
+}
+
+// A read that failed is told on standard error, with what nothing was.
+pub fn tell_read(read: usize, undone: &[u8]) {
+    io::write_all(STDERR_FILENO, b"tilecheck: cannot read standard input: ");
+    tell_count(read);
+    io::write_all(STDERR_FILENO, b" bytes were read, nothing was ");
+    io::write_all(STDERR_FILENO, undone);
+    io::write_all(STDERR_FILENO, b"\n");
+}
+
+// A write that failed is told on standard error.
+fn tell_write(written: usize, all: usize) {
+    io::write_all(STDERR_FILENO, b"tilecheck: cannot write standard output: ");
+    tell_count(written);
+    io::write_all(STDERR_FILENO, b" of ");
+    tell_count(all);
+    io::write_all(STDERR_FILENO, b" bytes were written\n");
+}
+
+// The bytes are printed on standard output; where they are not written whole, that is told.
+pub fn print_bytes(bytes: &[u8]) {
+    let written = write_output(bytes);
+    if written < bytes.len() {
+        tell_write(written, bytes.len());
+    }
 }

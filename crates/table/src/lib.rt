@@ -31,7 +31,7 @@ pub fn task_at(table: &[u32], i: usize) -> Task
 }
 
 // The least value of the word at an index: R may be 0.
-fn word_least(i: usize) -> u32
+pub fn word_least(i: usize) -> u32
     ensures { λ r. ⌜ r ≡ wordLeast i ⌝ }
 {
     if i % 4 == 3 {

@@ -3,6 +3,7 @@ ghost use mathlib.Core.Path.{_≡_};
 ghost use Prim.Native.Nat.{_+_, _^_, _≤_, min};
 ghost use Rattle.rules.specs.Generator.{stateAfterSets};
 use libc::STDERR_FILENO;
+use stdio::tell_count;
 use stdio::write_output;
 use texts::TEXT_MOST;
 use word::Decimal;
@@ -43,11 +44,6 @@ fn tell_use() {
         STDERR_FILENO,
         b"(SEED: decimal digits, below 4294967296; COUNT: one to five decimal digits)\n",
     );
-}
-
-// A number on standard error.
-fn tell_count(n: usize) {
-    io::print_decimal(STDERR_FILENO, n as u64);
 }
 
 // A write that failed is told on standard error.

@@ -2,8 +2,8 @@
 // seed, and what is printed of them.
 use libc::STDIN_FILENO;
 use libc::STDOUT_FILENO;
-use output::INPUT_MOST;
 use output::OUTPUT_MOST;
+use rules::INPUT_MOST;
 use texts::TEXT_MOST;
 
 // The seed, and how many sets are drawn.

@@ -1,20 +1,10 @@
 -- `tilecheck::main` ends: the buffer is longer than the longest input, so what fills it is too long, and what was read whole is a part of it.
-use mathlib.Core.Path.{sym, subst}
-use Prim.Native.Nat.{_<_}
-use native.Mathlib.Omega.{arith}
-use lib.ListN.{length}
+use mathlib.Core.Path.{sym}
 use lib.Seq.{length-take-le}
-use Rattle.stdio.specs.Input.{Within}
-use Rattle.stdio.specs.declared.Input.{Input}
+use Rattle.stdio.proofs.Reading.{whole-within}
 use borrow.Author.Needs.{needs}
 use Rattle.tilecheck.proofs.main.Statement.{statement}
 use Rattle.tilecheck.proofs.main.Tie as tie
-
--- an input that was read whole does not fill the buffer
-within : (c : tie.After-known-told) → c .before .read .given .0 .0 < length (c .before .before .before .before .read-input .last .0)
-within c =
-    let after-read = c .before .before .before .before in
-    subst (λ (r : Input). Within r (length (after-read .read-input .last .0))) (c .before .read .given .1) (after-read .read-input .ensures)
 
 slice-aggregate-read-input : tie.Need-slice-aggregate-read-input
 slice-aggregate-read-input c = search needs
@@ -26,7 +16,7 @@ enum-known-read : tie.Need-enum-known-read
 enum-known-read c = search needs
 
 array-share-prefix-input : tie.Need-array-share-prefix-input
-array-share-prefix-input c = omega (arith, within c)
+array-share-prefix-input c = let at-whole = c .before in whole-within (at-whole .before .before .before .read-input .ensures) (at-whole .read .given .1)
 
 slice-aggregate-print-output : tie.Need-slice-aggregate-print-output
 slice-aggregate-print-output c = sym (length-take-le _ _ (array-share-prefix-input (c .before)))
@@ -45,6 +35,9 @@ print-output-requires-2 c κs = search needs
 
 enum-known-read-2 : tie.Need-enum-known-read-2
 enum-known-read-2 c = search needs
+
+slice-aggregate-tell-read : tie.Need-slice-aggregate-tell-read
+slice-aggregate-tell-read c = search needs
 
 tell-read-requires : tie.Need-tell-read-requires
 tell-read-requires c κs = search needs
@@ -72,6 +65,7 @@ main-spec =
     slice-aggregate-print-output-2
     print-output-requires-2
     enum-known-read-2
+    slice-aggregate-tell-read
     tell-read-requires
     returns
     returns-2

@@ -1,4 +1,4 @@
--- `tilecheck::print_output` meets its contract, which says only that it ends: there is room for every output, and what is written is a part of the room.
+-- `tilecheck::print_output` meets its contract, which says only that it ends: there is room for every output, and what is printed is a part of the room.
 use mathlib.Core.Path.{sym}
 use Prim.Native.Nat.{_≤_}
 use lib.ListN.{length}
@@ -21,20 +21,14 @@ output-requires c κs = search needs
 array-share-prefix-out : tie.Need-array-share-prefix-out
 array-share-prefix-out c = in-room (c .before)
 
-slice-aggregate-write-output : tie.Need-slice-aggregate-write-output
-slice-aggregate-write-output c = sym (length-take-le _ _ (in-room (c .before .before)))
+slice-aggregate-print-bytes : tie.Need-slice-aggregate-print-bytes
+slice-aggregate-print-bytes c = sym (length-take-le _ _ (in-room (c .before .before)))
 
-write-output-requires : tie.Need-write-output-requires
-write-output-requires c κs = search needs
-
-tell-write-requires : tie.Need-tell-write-requires
-tell-write-requires c κs = search needs
+print-bytes-requires : tie.Need-print-bytes-requires
+print-bytes-requires c κs = search needs
 
 returns : tie.Need-returns
 returns c = search needs
-
-returns-2 : tie.Need-returns-2
-returns-2 c = search needs
 
 pub print-output-spec : {M : Type 1} → statement M
 print-output-spec =
@@ -43,8 +37,6 @@ print-output-spec =
     slice-aggregate-output
     output-requires
     array-share-prefix-out
-    slice-aggregate-write-output
-    write-output-requires
-    tell-write-requires
-    returns
-    returns-2)
+    slice-aggregate-print-bytes
+    print-bytes-requires
+    returns)

@@ -1,0 +1,128 @@
+-- What becomes of an input: of a sheet the text of its set, of a text the sheet of its first set; or the words for what is wrong.
+use mathlib.Core.Path.{_≡_}
+use Prim.Native.Nat.{ℕ, _+_, _/_, _%_, _<_}
+use Prim.Native.String.{String}
+use mathlib.Core.List.{List, [], _∷_, _++_}
+use mathlib.Core.Option.{Option, some}
+use lib.Dec.{ltb, eqb}
+use lib.ListN.{length, drop}
+use Rattle.rules.specs.Choice.{if_then_else_}
+use Rattle.rules.specs.Numbers.{tableMost, inputMost}
+use Rattle.rules.specs.Refusals.{numberOf, firstOf, answering, lent}
+use Rattle.rules.specs.Table.{wordLeast, tableRefusal}
+use Rattle.rules.specs.Text.{bytes, digits, readSet, wordsRead, writeSet}
+use Rattle.rules.specs.Sheet.{nameOf, readSheet, sheetWords, writeSheet}
+use Rattle.rules.specs.Answers.{lineRefusal, recordRefusal}
+use Rattle.rules.specs.declared.Refusal.{Refusal}
+use Rattle.rules.specs.declared.Refusal.the-variants.{NoWord, NotFours, TooManyWords, OutOfRange, BadEnd, TooShort, BadLine, NotMisses, NoHeader, BadRecord, NoRecord}
+use Rattle.rules.specs.declared.ReadAnswer.{ReadAnswer}
+use Rattle.exchange.specs.declared.Source.{Source}
+use Rattle.exchange.specs.declared.Made.{Made}
+
+-- THE WORDS FOR WHAT IS WRONG
+-- words, a number, words
+abbrev pub phrase : String → ℕ → String → List ℕ
+phrase before n after = bytes before ++ (digits n ++ bytes after)
+
+-- where word i of the table stands: in a sheet by its record, of which the header is the first, and its column; in a text by its line
+abbrev pub place : Source → ℕ → List ℕ
+place Source.Sheet i = phrase "record " (i / 4 + 2) ": " ++ nameOf (i % 4)
+place Source.Text i = bytes "line " ++ digits (i + 2)
+
+-- record 66 is a 65th after the header
+abbrev pub badRecord : ℕ → List ℕ
+badRecord l =
+    if eqb l 66 then phrase "record " l " is one too many: a tile has at most 64 kernels" else phrase "record " l " is not as due"
+
+-- what is wrong; a refusal without words is never told
+abbrev pub wrong : Source → Refusal → List ℕ
+wrong source NoHeader = bytes "the header must name execution, deadline, period and release once each"
+wrong source (BadRecord l) = badRecord l
+wrong source NoRecord = bytes "no record comes after the header"
+wrong source (OutOfRange i) = place source i ++ phrase " is out of its range, which is " (wordLeast i) " to 65535"
+wrong source (BadLine l) = phrase "line " l " is missing or not as due"
+wrong source NoWord = []
+wrong source NotFours = []
+wrong source TooManyWords = []
+wrong source BadEnd = []
+wrong source TooShort = []
+wrong source NotMisses = []
+
+-- with the refusal's number
+abbrev pub numbered : Source → Refusal → List ℕ
+numbered source r = wrong source r ++ phrase " (refusal " (numberOf r) ")\n"
+
+-- the line for a refusal
+abbrev pub sentence : Source → Refusal → List ℕ
+sentence source r = bytes "tilecheck: " ++ numbered source r
+
+-- and for an input that is too long
+abbrev pub tooLong : List ℕ
+tooLong = bytes "tilecheck: the input has more than 32768 bytes\n"
+
+-- WHAT BECOMES OF AN INPUT
+-- the refusal of its reading: 13, 14, 15 for a sheet, 7 for a text
+abbrev pub readingRefusal : Source → List ℕ → Option Refusal
+readingRefusal Source.Sheet input = recordRefusal (readSheet input)
+readingRefusal Source.Text input = lineRefusal (readSet input)
+
+-- the words of its table
+abbrev pub wordsIn : Source → List ℕ → List ℕ
+wordsIn Source.Sheet input = sheetWords (readSheet input)
+wordsIn Source.Text input = wordsRead (readSet input)
+
+-- what is written of that table: the text of a sheet's, the sheet of a text's
+abbrev pub written : Source → List ℕ → List ℕ
+written Source.Sheet words = writeSet words
+written Source.Text words = writeSheet words
+
+-- the refusal of the reading, then that of the table
+abbrev pub refusalOf : Source → List ℕ → Option Refusal
+refusalOf source input = firstOf (readingRefusal source input ∷ tableRefusal (wordsIn source input) ∷ [])
+
+-- a text or sheet that is made, or words that are told
+pub data Outcome : Type 0 where
+  made : List ℕ → Outcome
+  told : List ℕ → Outcome
+
+-- of an input of at most 32,768 bytes: what is written of its table, or its refusal
+unfoldable pub exchanged : Source → List ℕ → Outcome
+exchanged source input =
+    if ltb inputMost (length input) then told tooLong
+    else answering (refusalOf source input) (λ r. told (sentence source r)) (made (written source (wordsIn source input)))
+
+-- THE CALLS
+-- the most bytes: those of a text of 64 tasks, 9 for its first line and 8 for each of 256 words
+abbrev pub madeMost : ℕ
+madeMost = 2057
+
+-- a refusal 4 names a word of a table
+abbrev pub InTable : Refusal → Type 0
+InTable r = (i : ℕ) → r ≡ OutOfRange i → i < tableMost
+
+-- the reading of an input into a table with room for 64 tasks
+pub record Reads (source : Source) (input table : List ℕ) (answer : ReadAnswer) (exit : List ℕ) : Type 0 where
+  pub says : answer ≡ answering (readingRefusal source input) ReadAnswer.Refused (ReadAnswer.Set (length (wordsIn source input) / 4))
+  pub leaves : exit ≡ lent (readingRefusal source input) (wordsIn source input) table
+
+-- an outcome's bytes, and the answer with their length
+abbrev pub bytesOf : Outcome → List ℕ
+bytesOf (made vs) = vs
+bytesOf (told vs) = vs
+
+abbrev pub answerOf : Outcome → Made
+answerOf (made vs) = Made.Bytes (length vs)
+answerOf (told vs) = Made.Told (length vs)
+
+-- they stand at the start of the lent bytes, which stay the same beyond
+pub record Gives (outcome : Outcome) (out : List ℕ) (answer : Made) (exit : List ℕ) : Type 0 where
+  pub says : answer ≡ answerOf outcome
+  pub leaves : exit ≡ bytesOf outcome ++ drop (length (bytesOf outcome)) out
+
+-- two outcomes of one call are equal
+abbrev pub GivesOne : Type 0
+GivesOne = (outcome : Outcome) (out : List ℕ) (a b : Made) (e f : List ℕ) → Gives outcome out a e → Gives outcome out b f → (a ≡ b) × (e ≡ f)
+
+-- every refusal that is told has words for what is wrong
+abbrev pub AllWorded : Type 0
+AllWorded = (source : Source) (input : List ℕ) (r : Refusal) → refusalOf source input ≡ some r → wrong source r ≡ [] → ⊥

@@ -1,0 +1,2 @@
+-- What the exchange of sheets and texts promises.
+pub mod Exchange

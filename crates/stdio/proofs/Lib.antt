@@ -1,0 +1,2 @@
+-- What the calls on standard input tell their callers.
+pub mod Reading

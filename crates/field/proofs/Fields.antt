@@ -8,7 +8,7 @@ use mathlib.Core.Bool.{Bool, true, false}
 use lib.ListN.{length, take, drop}
 use borrow.Author.Tests.{lt-ltb, le-ltb}
 use Rattle.rules.specs.Sheet.{content, noField, readQuoted, readField, afterEnd, last, noStep, lastOf, nextField}
-use Rattle.rules.specs.Sheets.{standing, standingStep}
+use Rattle.rules.specs.Standing.{standing, standingStep}
 use Rattle.rules.proofs.FieldSteps.{impossible, last-none, last-some, next-none}
 use Rattle.field.specs.Fields.{Quoted, found, ended, stepped, StepsOne}
 use Rattle.field.specs.declared.Next.{Next}

@@ -6,7 +6,8 @@ use denote.Enum.Declared.{tagOf}
 use types.Run.{OneOf, miss}
 use lib.ListN.{length}
 use Rattle.rules.specs.Sheet.{nextField, Record, fields, noRecord, before, readRecord}
-use Rattle.rules.specs.Sheets.{doubled, standingStep}
+use Rattle.rules.specs.Sheets.{doubled}
+use Rattle.rules.specs.Standing.{standingStep}
 use Rattle.rules.proofs.Records.{more-shorter, record-more, record-last, record-none, befores-none, befores-more, befores-fields}
 use Rattle.rules.proofs.FieldSteps.{stands-more, stands-last, stands-none}
 use Rattle.field.specs.Fields.{stepped}

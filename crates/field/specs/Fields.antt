@@ -8,7 +8,7 @@ use lib.Dec.{ltb}
 use lib.ListN.{length, take, drop}
 use Rattle.rules.specs.Choice.{if_then_else_}
 use Rattle.rules.specs.Sheet.{Field, content, noField, readPlain, readQuoted, readField, afterEnd, Step, more, last, noStep, nextField}
-use Rattle.rules.specs.Sheets.{standing, standingStep}
+use Rattle.rules.specs.Standing.{standing, standingStep}
 use Rattle.field.specs.declared.Next.{Next}
 use Rattle.field.specs.declared.Next.the-variants.{More, Last, Wrong}
 

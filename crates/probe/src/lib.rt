@@ -4,8 +4,8 @@
 ghost use mathlib.Core.Path.{_≡_};
 ghost use Prim.Native.Nat.{_-_};
 ghost use lib.ListN.{length};
-ghost use Rattle.rules.specs.Answers.{readAnswer, readTable, readRest, writeAnswer, writeBuffer, writeSheetAnswer, writeSheetBuffer, scheduleAnswer, scheduleBuffer, verdictAnswer, patternAnswer, patternBuffer};
-ghost use Rattle.rules.specs.Told.{writeTold, scheduleTold, patternTold};
+ghost use Rattle.rules.specs.Answers.{readAnswer, readTable, readRest, writeAnswer, writeBuffer, readSheetAnswer, readSheetTable, writeSheetAnswer, writeSheetBuffer, scheduleAnswer, scheduleBuffer, verdictAnswer, patternAnswer, patternBuffer};
+ghost use Rattle.rules.specs.Told.{readTold, writeTold, scheduleTold, patternTold};
 ghost use Rattle.rules.specs.Generator.{nextState, drawn, drawAnswer, drawState, drawTable};
 ghost use Rattle.told.specs.Sayings.{readProbed, verdictProbed, drawProbed, setProbed};
 ghost use Rattle.probe.specs.Probe.{Probes, byRoom};
@@ -40,6 +40,18 @@ pub extern "C" fn probe_write(table: &[u32], text: &mut [u8], out: &mut [u64]) -
         return 999;
     }
     tell::tell(out, told::say_write(writer::write(table, text)))
+}
+
+// The sheet's reader: 0 with the task count.
+#[no_mangle]
+pub extern "C" fn probe_sheet_read(text: &[u8], table: &mut [u32], out: &mut [u64]) -> u32
+    ensures told { λ n. ⌜ Probes (readTold (readSheetAnswer (now (text .entry)) (now (table .entry)))) (now (out .entry)) n (now (out .exit)) ⌝ }
+    ensures filled { λ _. ⌜ now (table .exit) ≡ byRoom (now (out .entry)) (now (table .entry)) (readSheetTable (now (text .entry)) (now (table .entry))) ⌝ }
+{
+    if out.len() < ROOM {
+        return 999;
+    }
+    tell::tell(out, told::say_sheet(sheet::read_sheet(text, table)))
 }
 
 // The sheet's writer: 0 with the length.

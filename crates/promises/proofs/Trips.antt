@@ -12,8 +12,6 @@ use Rattle.rules.specs.Text.{took, readSet, writeSet}
 use Rattle.rules.specs.Calls.{Makes}
 use Rattle.rules.specs.declared.Refusal.{Refusal}
 use Rattle.rules.specs.declared.Refusal.the-variants.{TooShort}
-use Rattle.rules.specs.declared.ReadAnswer.{ReadAnswer}
-use Rattle.rules.specs.declared.WriteAnswer.{WriteAnswer}
 use Rattle.rules.specs.declared.WriteAnswer.the-variants.{Written, Refused}
 use Rattle.rules.proofs.SetTrips.{write-then-read, set-back}
 use Rattle.rules.proofs.Calls.{read-set, write-refused, write-short, write-made}

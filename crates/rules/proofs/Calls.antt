@@ -5,26 +5,23 @@ use mathlib.Core.Option.{Option, none, some}
 use Prim.Native.Nat.{ℕ, _*_, _/_, _≤_, _<_}
 use native.Mathlib.Omega.{arith}
 use mathlib.Core.List.{List, [], _∷_, _++_}
-use mathlib.Core.Bool.{Bool, true, false, _||_}
-use lib.Dec.{ltb, eqb}
+use mathlib.Core.Bool.{true, false}
 use lib.ListN.{length, drop}
 use borrow.Author.Tests.{lt-ltb, le-ltb, eq-eqb, ne-eqb}
 use Rattle.rules.specs.Numbers.{tableMost, endMost}
 use Rattle.rules.specs.Task.{tasksOf}
-use Rattle.rules.specs.Refusals.{_when_, firstOf, answering, lent}
+use Rattle.rules.specs.Refusals.{firstOf, answering}
 use Rattle.rules.specs.Table.{tableRefusal, tableAnswer, ValidTable}
 use Rattle.rules.specs.Dispatch.{Job, dispatch, lateJob, rowWords}
-use Rattle.rules.specs.Jobs.{concrete, named}
+use Rattle.rules.specs.Jobs.{concrete}
 use Rattle.rules.specs.Demand.{verdict}
-use Rattle.rules.specs.Text.{took, stop, readSet, writeSet}
+use Rattle.rules.specs.Text.{took, stop, readSet}
 use Rattle.rules.specs.Told.{numberTold, verdictTold}
 use Rattle.rules.specs.Answers.{readRefusal, readAnswer, readTable, readRest, makeRefusal, makeAnswer, makeBuffer, dispatchRefusal, timing, dispatchAnswer, dispatchBuffer, scheduleRefusal, scheduleAnswer, scheduleBuffer, verdictAnswer, isMisses, namedBy, rowsOf, patternRefusal, patternAnswer, patternBuffer, firstRefusal, firstAnswer, checkNumber}
 use Rattle.rules.specs.Report.{setLines, setRest, reportRefusal, reportAnswer, reportBuffer}
 use Rattle.rules.specs.Calls.{Reads, Makes, Dispatches, Schedules, Shows, Reports}
 use Rattle.rules.specs.declared.Refusal.{Refusal}
 use Rattle.rules.specs.declared.Refusal.the-variants.{BadEnd, TooShort, BadLine, NotMisses}
-use Rattle.rules.specs.declared.Blocker.{Blocker}
-use Rattle.rules.specs.declared.Verdict.{Verdict}
 use Rattle.rules.specs.declared.TableAnswer.{TableAnswer}
 use Rattle.rules.specs.declared.ReadAnswer.{ReadAnswer}
 use Rattle.rules.specs.declared.WriteAnswer.{WriteAnswer}

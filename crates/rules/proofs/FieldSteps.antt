@@ -14,7 +14,8 @@ use borrow.Author.Tests.{eq-eqb, ne-eqb}
 use Rattle.rules.specs.Choice.{if_then_else_}
 use Rattle.rules.specs.Text.{afterKey}
 use Rattle.rules.specs.Sheet.{crlf, mark, Field, content, noField, byte, readPlain, readQuoted, readField, afterEnd, more, last, noStep, lastOf, followed, Step, nextField}
-use Rattle.rules.specs.Sheets.{doubled, standing, standingStep}
+use Rattle.rules.specs.Sheets.{doubled}
+use Rattle.rules.specs.Standing.{standing, standingStep}
 use Rattle.rules.proofs.Booleans.{true-is-not-false}
 use Rattle.rules.proofs.ReadSteps.{empty, first-of}
 use Rattle.rules.proofs.Records.{double-other}

@@ -33,7 +33,7 @@ either t f g {n} h k = chosen (λ (x : Field). left x ≤ n) t h k
 plain-left : (s : List ℕ) → left (readPlain s) ≤ length s
 unfolding left readPlain
 plain-left [] = omega arith
-plain-left (b ∷ s) = either (mark b) (content [] (b ∷ s)) (byte b (readPlain s)) (omega arith) (omega (arith, left-byte b (readPlain s), plain-left s))
+plain-left (b ∷ s) = either (mark b) _ _ (omega arith) (omega (arith, left-byte b (readPlain s), plain-left s))
 
 mutual
   unfolding left readQuoted
@@ -41,17 +41,17 @@ mutual
   quoted-left : (s : List ℕ) → left (readQuoted s) ≤ length s
   quoted-left [] = omega arith
   quoted-left (b ∷ s) =
-      either (eqb b 34) (afterQuote s) (byte b (readQuoted s)) (omega (arith, quote-left s)) (omega (arith, left-byte b (readQuoted s), quoted-left s))
+      either (eqb b 34) _ _ (omega (arith, quote-left s)) (omega (arith, left-byte b (readQuoted s), quoted-left s))
 
   quote-left : (s : List ℕ) → left (afterQuote s) ≤ length s
   quote-left [] = omega arith
   quote-left (b ∷ s) =
-      either (eqb b 34) (byte b (readQuoted s)) (content [] (b ∷ s)) (omega (arith, left-byte b (readQuoted s), quoted-left s)) (omega arith)
+      either (eqb b 34) _ _ (omega (arith, left-byte b (readQuoted s), quoted-left s)) (omega arith)
 
 field-left : (s : List ℕ) → left (readField s) ≤ length s
 unfolding left readField
 field-left [] = omega arith
-field-left (b ∷ s) = either (eqb b 34) (readQuoted s) (readPlain (b ∷ s)) (omega (arith, quoted-left s)) (plain-left (b ∷ s))
+field-left (b ∷ s) = either (eqb b 34) _ _ (omega (arith, quoted-left s)) (plain-left (b ∷ s))
 
 -- the bytes after a comma are fewer than those before the field
 pub more-shorter : (s c t : List ℕ) → nextField s ≡ more c t → length t < length s

@@ -12,7 +12,7 @@ use borrow.Author.Tests.{eq-eqb, ne-eqb}
 use Rattle.rules.specs.Choice.{if_then_else_}
 use Rattle.rules.specs.Numbers.{taskMost}
 use Rattle.rules.specs.Text.{got, bad, readNumber}
-use Rattle.rules.specs.Sheet.{Record, fields, noRecord, readRecord, columnsOf, whole, fieldNumber, also, numbersIn, Row, row, noRow, rowOf, readRow, Sheet, tasks, wrong, noHeader, wordsAhead, orWrong, atRecord, readTasks}
+use Rattle.rules.specs.Sheet.{Record, fields, noRecord, readRecord, whole, fieldNumber, also, numbersIn, Row, row, noRow, rowOf, readRow, Sheet, tasks, wrong, noHeader, wordsAhead, orWrong, atRecord, readTasks}
 use Rattle.rules.proofs.ReadSteps.{empty, first-of}
 use Rattle.rules.proofs.Records.{befores, befores-fields, befores-nothing}
 
@@ -32,11 +32,6 @@ module _ (c : List ℕ) where
     pub number-and-more : (length s ≡ 0 → ⊥) → fieldNumber c ≡ none
     unfolding fieldNumber whole
     number-and-more n = let p : 0 < length s = omega arith in rw (e, first-of s p)
-
--- the four names have four columns
-pub columns-four : (hs : List (List ℕ)) → length (columnsOf hs) ≡ 4
-unfolding columnsOf
-columns-four hs = refl
 
 -- the numbers in some columns of a record: all are as due
 numbers-all : (columns words : List ℕ) (cs : List (List ℕ)) → length words ≡ length columns

@@ -6,17 +6,16 @@ use native.Mathlib.Decide.{decLt}
 use native.Mathlib.Omega.{arith}
 use mathlib.Core.List.{List, [], _∷_, _++_, append-assoc, List·Memᴰ, List·Memᴰ·head, List·Memᴰ·tail, List·Memᴰ·not-nil}
 use mathlib.Core.Bool.{Bool, true, false, not, _&&_}
-use mathlib.Core.Option.{none, some}
+use mathlib.Core.Option.{none}
 use lib.Dec.{ltb}
 use lib.ListN.{length, length-append}
 use borrow.Author.Tests.{ne-eqb, lt-ltb, le-ltb}
 use Rattle.rules.specs.Choice.{if_then_else_}
 use Rattle.rules.specs.Table.{tableRefusal}
 use Rattle.rules.specs.Text.{bytes, afterKey, digitsWithin, digits}
-use Rattle.rules.specs.Sheet.{mark, fields, readRecord, nameOf, isName, times, columnFrom, goodHeader, columnsOf, fieldNumber, also, numbersIn, row, rowOf, readRow, Sheet, tasks, wordsAhead, orWrong, atRecord, readTasks, underHeader, readSheet, writeRecords, writeSheet}
+use Rattle.rules.specs.Sheet.{mark, fields, readRecord, nameOf, isName, times, columnFrom, goodHeader, columnsOf, also, numbersIn, row, rowOf, readRow, Sheet, tasks, wordsAhead, orWrong, atRecord, readTasks, underHeader, readSheet, writeRecords, writeSheet}
 use Rattle.rules.specs.Sheets.{Stands, Commas, Begins}
 use Rattle.rules.proofs.Booleans.{both, both-true}
-use Rattle.rules.proofs.Digits.{digits-least}
 use Rattle.rules.proofs.Tables.{valid-of}
 use Rattle.rules.proofs.SetTrips.{Small, small-of}
 use Rattle.rules.proofs.SheetGrammar.{Plain, plain-byte, record-exact}

@@ -5,6 +5,7 @@ pub mod Task
 pub mod Text
 pub mod Sheet
 pub mod Sheets
+pub mod Standing
 pub mod Refusals
 pub mod Told
 pub mod Table

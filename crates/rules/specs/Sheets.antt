@@ -6,23 +6,11 @@ use lib.Dec.{eqb}
 use lib.ListN.{length, getD}
 use Rattle.rules.specs.Choice.{if_then_else_}
 use Rattle.rules.specs.Text.{bytes, digits}
-use Rattle.rules.specs.Sheet.{Field, content, noField, Step}
 
 -- each quote of a content doubled
 unfoldable pub doubled : List ℕ → List ℕ
 doubled [] = []
 doubled (b ∷ c) = if eqb b 34 then 34 ∷ 34 ∷ doubled c else b ∷ doubled c
-
--- a field that was read, as it stands between its quotes: its content with each quote doubled
-unfoldable pub standing : Field → Field
-standing (content c s) = content (doubled c) s
-standing noField = noField
-
--- so too the next field of a record
-unfoldable pub standingStep : Step → Step
-standingStep (Step.more c s) = Step.more (doubled c) s
-standingStep (Step.last c s) = Step.last (doubled c) s
-standingStep Step.noStep = Step.noStep
 
 -- a field, by its content and the bytes that it takes: plain, with no quote, comma, CR or LF in it; or any content, between quotes and with its own doubled
 pub data Stands : List ℕ → List ℕ → Type 0 where

@@ -8,7 +8,7 @@ use mathlib.Core.List.{List}
 use borrow.Author.Needs.{needs}
 use borrow.Author.Tests.{not-true, not-false}
 use Rattle.rules.specs.Sheet.{content, afterEnd, more, lastOf, readField, nextField}
-use Rattle.rules.specs.Sheets.{standing, standingStep}
+use Rattle.rules.specs.Standing.{standing, standingStep}
 use Rattle.rules.proofs.FieldSteps.{impossible, next-comma, next-end, next-other}
 use Rattle.rules.proofs.Slices.{part}
 use Rattle.field.proofs.Fields.{the-field, no-field, the-end, no-end}

@@ -10,7 +10,7 @@ use lib.Seq.{length-take-le}
 use borrow.Author.Needs.{needs}
 use borrow.Author.Tests.{not-true, not-false, eqb-true, eqb-false}
 use Rattle.rules.specs.Sheet.{content, readPlain, readQuoted, readField}
-use Rattle.rules.specs.Sheets.{standing}
+use Rattle.rules.specs.Standing.{standing}
 use Rattle.rules.proofs.Booleans.{true-is-not-false}
 use Rattle.rules.proofs.FieldSteps.{field-none, field-plain, field-quoted}
 use Rattle.rules.proofs.Slices.{part}

@@ -1,5 +1,6 @@
 -- `sheet::put_word` meets its contract: the digits, and where they end the line end after the last word, a comma after the others.
 use Prim.Native.Nat.{_+_, _≤_}
+use native.Mathlib.Omega.{arith}
 use lib.ListN.{length}
 use Rattle.rules.specs.Text.{digits}
 use Rattle.rules.specs.Sheet.{afterWord}
@@ -31,7 +32,7 @@ slice-aggregate-put-bytes c = search needs
 put-bytes-requires : tie.Need-put-bytes-requires
 put-bytes-requires c κs =
     let at-last = c .before .before in
-    rw (after-last _ (at-last .if1 .taken)) at (room (at-last .before .before .before))
+    omega (arith, rw (after-last _ (at-last .if1 .taken)) at (room (at-last .before .before .before)))
 
 same-length : tie.Need-same-length
 same-length c = search needs
@@ -50,7 +51,7 @@ put-bytes-requires-2 : tie.Need-put-bytes-requires-2
 put-bytes-requires-2 c κs =
     let at-other = c .before .before in
     let after-number = at-other .before .before .before in
-    rw (after-other _ (start after-number .pre .0) (at-other .if1 .left)) at (room after-number)
+    omega (arith, rw (after-other _ (start after-number .pre .0) (at-other .if1 .left)) at (room after-number))
 
 same-length-2 : tie.Need-same-length-2
 same-length-2 c = search needs

@@ -14,12 +14,13 @@ use Rattle.rules.specs.Calls.{Reads, ReadsSheet, Makes}
 use Rattle.rules.specs.declared.Refusal.{Refusal}
 use Rattle.rules.specs.declared.ReadAnswer.{ReadAnswer}
 use Rattle.rules.specs.declared.WriteAnswer.{WriteAnswer}
+use Rattle.rules.proofs.Booleans.{impossible}
 use Rattle.rules.proofs.TextLengths.{text-most, sheet-most}
 use Rattle.rules.proofs.Rooms.{Fours, read-with-room, sheet-with-room, write-with-room, was-refused, was-done}
 use Rattle.exchange.specs.Exchange.{readingRefusal, wordsIn, written, sentence, tooLong, Outcome, made, told, exchanged, madeMost, InTable, ReadsTable, Gives}
 use Rattle.exchange.specs.declared.Source.{Source}
 use Rattle.exchange.specs.declared.Made.{Made}
-use Rattle.exchange.proofs.Tellable.{differ, words-fours, reading-tellable, table-tellable}
+use Rattle.exchange.proofs.Tellable.{words-fours, reading-tellable, table-tellable}
 
 -- the readers, into a table with room for 64 tasks
 module _ (input table : List ℕ) (room : tableMost ≤ length table) {exit : List ℕ} where
@@ -68,7 +69,7 @@ module _ (source : Source) (input : List ℕ) where
       module _ (r : Refusal) (e : answer ≡ ReadAnswer.Refused r) where
         refusal-is : readingRefusal source input ≡ some r
         refusal-is =
-            was-refused ReadAnswer.Refused _ (λ s f. differ cc) (λ s t f. cc) (readingRefusal source input) r (sym e ∙ reads .says)
+            was-refused ReadAnswer.Refused _ (λ s f. impossible cc) (λ s t f. cc) (readingRefusal source input) r (sym e ∙ reads .says)
 
         pub unread-names : InTable r
         unread-names = reading-tellable source input r refusal-is .named
@@ -79,7 +80,7 @@ module _ (source : Source) (input : List ℕ) where
       -- is not: its words stand at the start of the table
       module _ (n : ℕ) (e : answer ≡ ReadAnswer.Set n) where
         done : (readingRefusal source input ≡ none) × (ReadAnswer.Set n ≡ ReadAnswer.Set (length (wordsIn source input) / 4))
-        done = was-done ReadAnswer.Refused _ (ReadAnswer.Set n) (λ r f. differ cc) (readingRefusal source input) (sym e ∙ reads .says)
+        done = was-done ReadAnswer.Refused _ (ReadAnswer.Set n) (λ r f. impossible cc) (readingRefusal source input) (sym e ∙ reads .says)
 
         fours : Fours (wordsIn source input)
         fours = words-fours source input (done .0)
@@ -112,7 +113,7 @@ module _ (source : Source) (input : List ℕ) where
           module _ (r : Refusal) (f : w ≡ WriteAnswer.Refused r) where
             table-is : tableRefusal (wordsIn source input) ≡ some r
             table-is =
-                was-refused WriteAnswer.Refused _ (λ s g. differ cc) (λ s t g. cc) (tableRefusal (wordsIn source input)) r (sym f ∙ makes-of .says ∙ sym (due .says))
+                was-refused WriteAnswer.Refused _ (λ s g. impossible cc) (λ s t g. cc) (tableRefusal (wordsIn source input)) r (sym f ∙ makes-of .says ∙ sym (due .says))
 
             pub unfit-names : InTable r
             unfit-names = table-tellable source (wordsIn source input) r fours table-is .named
@@ -127,7 +128,7 @@ module _ (source : Source) (input : List ℕ) where
           -- it is not
           pub when-fine : (k : ℕ) → w ≡ WriteAnswer.Written k → Becomes out (Made.Bytes k) exit
           when-fine k f =
-              let d = was-done WriteAnswer.Refused _ (WriteAnswer.Written k) (λ r g. differ cc) (tableRefusal (wordsIn source input)) (sym f ∙ makes-of .says ∙ sym (due .says)) in
+              let d = was-done WriteAnswer.Refused _ (WriteAnswer.Written k) (λ r g. impossible cc) (tableRefusal (wordsIn source input)) (sym f ∙ makes-of .says ∙ sym (due .says)) in
               let g = d .1 in
               let size : k ≡ length (written source (wordsIn source input)) = cc in
               subst (λ (o : Outcome). Gives o out (Made.Bytes k) exit) (is-fine (done .0) (d .0))

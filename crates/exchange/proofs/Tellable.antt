@@ -12,7 +12,7 @@ use Rattle.rules.specs.Sheet.{Sheet, tasks, wrong, noHeader, readSheet}
 use Rattle.rules.specs.Answers.{lineRefusal, recordRefusal}
 use Rattle.rules.specs.declared.Refusal.{Refusal}
 use Rattle.rules.specs.declared.Refusal.the-variants.{OutOfRange, NoHeader, BadRecord, NoRecord, BadLine}
-use Rattle.rules.proofs.Booleans.{chosen}
+use Rattle.rules.proofs.Booleans.{impossible, chosen}
 use Rattle.rules.proofs.Refused.{TableSays, table-says}
 use Rattle.rules.proofs.Rooms.{Fours, set-fours, sheet-words-fours}
 use Rattle.exchange.specs.Exchange.{wrongIn, readingRefusal, wordsIn, InTable}
@@ -22,33 +22,29 @@ pub record Tellable (source : Source) (r : Refusal) : Type 0 where
   pub named : InTable r
   pub worded : wrongIn source r ≡ [] → ⊥
 
--- two constructors are not equal
-pub differ : {A : Type 0} → _≡_ {A = ℕ} 0 1 → A
-differ z = absurd (omega arith)
-
 record-worded : (source : Source) (l : ℕ) → wrongIn source (BadRecord l) ≡ [] → ⊥
-record-worded source l = chosen (λ (words : List ℕ). words ≡ [] → ⊥) (eqb l 66) (λ e. differ cc) (λ e. differ cc)
+record-worded source l = chosen (λ (words : List ℕ). words ≡ [] → ⊥) (eqb l 66) (λ e. impossible cc) (λ e. impossible cc)
 
 range-worded : (source : Source) (i : ℕ) → wrongIn source (OutOfRange i) ≡ [] → ⊥
-range-worded Source.Sheet i e = differ cc
-range-worded Source.Text i e = differ cc
+range-worded Source.Sheet i e = impossible cc
+range-worded Source.Text i e = impossible cc
 
 -- THE READERS'
 pub reading-tellable : (source : Source) (input : List ℕ) (r : Refusal) → readingRefusal source input ≡ some r → Tellable source r
 reading-tellable Source.Sheet input r = by-sheet (readSheet input)
   where
     by-sheet : (k : Sheet) → recordRefusal k ≡ some r → Tellable Source.Sheet r
-    by-sheet noHeader e = let f : NoHeader ≡ r = cc in subst (Tellable Source.Sheet) f (record { named = λ i g. differ cc; worded = λ g. differ cc })
+    by-sheet noHeader e = let f : NoHeader ≡ r = cc in subst (Tellable Source.Sheet) f (record { named = λ i g. impossible cc; worded = λ g. impossible cc })
     by-sheet (wrong l) e =
         let f : BadRecord l ≡ r = cc in
-        subst (Tellable Source.Sheet) f (record { named = λ i g. differ cc; worded = record-worded Source.Sheet l })
-    by-sheet (tasks []) e = let f : NoRecord ≡ r = cc in subst (Tellable Source.Sheet) f (record { named = λ i g. differ cc; worded = λ g. differ cc })
-    by-sheet (tasks (w ∷ ws)) e = differ cc
+        subst (Tellable Source.Sheet) f (record { named = λ i g. impossible cc; worded = record-worded Source.Sheet l })
+    by-sheet (tasks []) e = let f : NoRecord ≡ r = cc in subst (Tellable Source.Sheet) f (record { named = λ i g. impossible cc; worded = λ g. impossible cc })
+    by-sheet (tasks (w ∷ ws)) e = impossible cc
 reading-tellable Source.Text input r = by-set (readSet input)
   where
     by-set : (k : Lines) → lineRefusal k ≡ some r → Tellable Source.Text r
-    by-set (took ws rest) e = differ cc
-    by-set (stop l) e = let f : BadLine l ≡ r = cc in subst (Tellable Source.Text) f (record { named = λ i g. differ cc; worded = λ g. differ cc })
+    by-set (took ws rest) e = impossible cc
+    by-set (stop l) e = let f : BadLine l ≡ r = cc in subst (Tellable Source.Text) f (record { named = λ i g. impossible cc; worded = λ g. impossible cc })
 
 -- an input that is read has four words a task
 pub words-fours : (source : Source) (input : List ℕ) → readingRefusal source input ≡ none → Fours (wordsIn source input)

@@ -9,7 +9,8 @@ use lib.ListN.{length, take, drop}
 use borrow.Author.Tests.{lt-ltb, le-ltb}
 use Rattle.rules.specs.Sheet.{content, noField, readQuoted, readField, afterEnd, last, noStep, lastOf, nextField}
 use Rattle.rules.specs.Standing.{standing, standingStep}
-use Rattle.rules.proofs.FieldSteps.{impossible, last-none, last-some, next-none}
+use Rattle.rules.proofs.Booleans.{impossible}
+use Rattle.rules.proofs.FieldSteps.{last-none, last-some, next-none}
 use Rattle.field.specs.Fields.{Quoted, found, ended, stepped, StepsOne}
 use Rattle.field.specs.declared.Next.{Next}
 use Rattle.field.specs.declared.Next.the-variants.{More, Last, Wrong}
@@ -54,9 +55,9 @@ steps-one s oldBody oldRest a b x y r q f g =
     by-answers More More e k l m n = (refl, (cc), (cc))
     by-answers Last Last e k l m n = (refl, (cc), (cc))
     by-answers Wrong Wrong e k l m n = (refl, k refl ∙ sym (m refl), l refl ∙ sym (n refl))
-    by-answers More Last e k l m n = impossible (cc)
-    by-answers More Wrong e k l m n = impossible (cc)
-    by-answers Last More e k l m n = impossible (cc)
-    by-answers Last Wrong e k l m n = impossible (cc)
-    by-answers Wrong More e k l m n = impossible (cc)
-    by-answers Wrong Last e k l m n = impossible (cc)
+    by-answers More Last e k l m n = impossible cc
+    by-answers More Wrong e k l m n = impossible cc
+    by-answers Last More e k l m n = impossible cc
+    by-answers Last Wrong e k l m n = impossible cc
+    by-answers Wrong More e k l m n = impossible cc
+    by-answers Wrong Last e k l m n = impossible cc

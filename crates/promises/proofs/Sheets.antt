@@ -16,6 +16,7 @@ use Rattle.rules.specs.Calls.{ReadsSheet, WritesSheet}
 use Rattle.rules.specs.declared.Refusal.the-variants.{TooShort}
 use Rattle.rules.specs.declared.ReadAnswer.{ReadAnswer}
 use Rattle.rules.specs.declared.WriteAnswer.{WriteAnswer}
+use Rattle.rules.proofs.Booleans.{impossible}
 use Rattle.rules.proofs.Tables.{valid-of}
 use Rattle.rules.proofs.SheetRecords.{kernel-words, sheet-none, sheet-wrong, sheet-tasks, sheet-fours}
 use Rattle.rules.proofs.SheetReading.{sheet-headless, sheet-stops, sheet-empty, sheet-short, sheet-set, SheetEnding, headless, at-record, no-record, no-room, whole-sheet, sheet-ending}
@@ -86,8 +87,7 @@ words-back table out sheet n w room words k r = by-room (decLt (length room) (le
     by-room : Dec (length room < length table) → take (4 * k) words ≡ table
     by-room (yes h) =
         let f : ReadAnswer.Set k ≡ ReadAnswer.Refused TooShort = r .says ∙ sym (sheet-short (take n sheet) room table read (some-words table out sheet n w) h .says) in
-        let z : _≡_ {A = ℕ} 0 1 = cc in
-        absurd (omega arith)
+        impossible cc
     by-room (no h) =
         let o = sheet-set (take n sheet) room table read (some-words table out sheet n w) (omega arith) in
         let f : ReadAnswer.Set k ≡ ReadAnswer.Set (length table / 4) = r .says ∙ sym (o .says) in

@@ -10,8 +10,12 @@ use lib.Dec.{leb, ltb}
 use borrow.Author.Tests.{le-leb, ltb-false}
 use Rattle.rules.specs.Choice.{if_then_else_}
 
+-- an equation of two constructors, of which `cc` makes this one, shows anything
+pub impossible : {A : Type 0} → _≡_ {A = ℕ} 0 1 → A
+impossible e = absurd (omega arith)
+
 pub true-is-not-false : {A : Type 0} → _≡_ {A = Bool} true false → A
-true-is-not-false e = let z : _≡_ {A = ℕ} 0 1 = cc in absurd (omega arith)
+true-is-not-false e = impossible cc
 
 pub both : (a b : Bool) → a ≡ true → b ≡ true → a && b ≡ true
 both a b p q = rw (p, q)

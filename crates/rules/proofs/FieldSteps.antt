@@ -16,13 +16,9 @@ use Rattle.rules.specs.Text.{afterKey}
 use Rattle.rules.specs.Sheet.{crlf, mark, Field, content, noField, byte, readPlain, readQuoted, readField, afterEnd, more, last, noStep, lastOf, followed, Step, nextField}
 use Rattle.rules.specs.Sheets.{doubled}
 use Rattle.rules.specs.Standing.{standing, standingStep}
-use Rattle.rules.proofs.Booleans.{true-is-not-false}
+use Rattle.rules.proofs.Booleans.{impossible, true-is-not-false}
 use Rattle.rules.proofs.ReadSteps.{empty, first-of}
 use Rattle.rules.proofs.Records.{double-other}
-
--- two constructors are never equal, and from `0 ≡ 1`, which that gives, all follows
-pub impossible : {A : Type 0} → _≡_ {A = ℕ} 0 1 → A
-impossible e = absurd (omega arith)
 
 -- a mark
 module _ (b : ℕ) where
@@ -234,17 +230,17 @@ module _ (b r : List ℕ) where
   pub stands-more : (x : Step) → more b r ≡ standingStep x → (c : List ℕ) × (x ≡ more c r) × (b ≡ doubled c)
   unfolding standingStep
   stands-more (more c s) e = (c, (cc), (cc))
-  stands-more (last c s) e = impossible (cc)
-  stands-more noStep e = impossible (cc)
+  stands-more (last c s) e = impossible cc
+  stands-more noStep e = impossible cc
 
   pub stands-last : (x : Step) → last b r ≡ standingStep x → (c : List ℕ) × (x ≡ last c r) × (b ≡ doubled c)
   unfolding standingStep
-  stands-last (more c s) e = impossible (cc)
+  stands-last (more c s) e = impossible cc
   stands-last (last c s) e = (c, (cc), (cc))
-  stands-last noStep e = impossible (cc)
+  stands-last noStep e = impossible cc
 
 pub stands-none : (x : Step) → noStep ≡ standingStep x → x ≡ noStep
 unfolding standingStep
-stands-none (more c s) e = impossible (cc)
-stands-none (last c s) e = impossible (cc)
+stands-none (more c s) e = impossible cc
+stands-none (last c s) e = impossible cc
 stands-none noStep e = refl

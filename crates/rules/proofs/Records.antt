@@ -13,7 +13,7 @@ use Rattle.rules.specs.Choice.{if_then_else_}
 use Rattle.rules.specs.Text.{got, bad, afterKey, digit, moreDigits, readNumber}
 use Rattle.rules.specs.Sheet.{mark, Field, content, noField, byte, readPlain, readQuoted, afterQuote, readField, afterEnd, Step, more, last, noStep, lastOf, followed, nextField, Record, fields, noRecord, before, onward, recordWithin, readRecord, nameOf, noneLeft, isName, whole, fieldNumber}
 use Rattle.rules.specs.Sheets.{doubled}
-use Rattle.rules.proofs.Booleans.{true-is-not-false, both-true, chosen}
+use Rattle.rules.proofs.Booleans.{impossible, true-is-not-false, both-true, chosen}
 use Rattle.rules.proofs.ReadSteps.{digit-range}
 
 -- how many bytes a field leaves
@@ -59,8 +59,8 @@ unfolding left lastOf followed
 more-shorter s c t e = by-field (readField s) (field-left s) e
   where
     last-not-more : (d : List ℕ) (o : Option (List ℕ)) → lastOf d o ≡ more c t → ⊥
-    last-not-more d none e = let z : _≡_ {A = ℕ} 0 1 = cc in omega arith
-    last-not-more d (some r) e = let z : _≡_ {A = ℕ} 0 1 = cc in omega arith
+    last-not-more d none e = impossible cc
+    last-not-more d (some r) e = impossible cc
 
     by-comma : (d : List ℕ) (b : ℕ) (r : List ℕ) (t' : Bool) → length r < length s
         → (if t' then more d r else lastOf d (afterEnd (b ∷ r))) ≡ more c t → length t < length s
@@ -68,7 +68,7 @@ more-shorter s c t e = by-field (readField s) (field-left s) e
     by-comma d b r false h e = absurd (last-not-more d (afterEnd (b ∷ r)) e)
 
     by-field : (f : Field) → left f ≤ length s → followed f ≡ more c t → length t < length s
-    by-field noField h e = let z : _≡_ {A = ℕ} 0 1 = cc in absurd (omega arith)
+    by-field noField h e = impossible cc
     by-field (content d []) h e = absurd (last-not-more d (afterEnd []) e)
     by-field (content d (b ∷ r)) h e = by-comma d b r (eqb b 44) (omega arith) e
 

@@ -15,6 +15,7 @@ use Rattle.rules.specs.Calls.{Reads, ReadsSheet, Makes}
 use Rattle.rules.specs.declared.Refusal.{Refusal}
 use Rattle.rules.specs.declared.ReadAnswer.{ReadAnswer}
 use Rattle.rules.specs.declared.WriteAnswer.{WriteAnswer}
+use Rattle.rules.proofs.Booleans.{impossible}
 use Rattle.rules.proofs.Calls.{read-stops, read-set, write-refused, write-made}
 use Rattle.rules.proofs.SetTrips.{set-back}
 use Rattle.rules.proofs.SheetRecords.{sheet-tasks, sheet-fours}
@@ -41,7 +42,7 @@ module _ (text : List ℕ) where
   set-fours = by-set (readSet text) refl
     where
       by-set : (k : Lines) → readSet text ≡ k → lineRefusal k ≡ none → Fours (wordsRead k)
-      by-set (stop l) e o = let z : _≡_ {A = ℕ} 0 1 = cc in absurd (omega arith)
+      by-set (stop l) e o = impossible cc
       by-set (took ws rest) e o = took-fours ws rest e
 
   pub read-with-room : (table : List ℕ) → tableMost ≤ length table
@@ -64,9 +65,9 @@ module _ (sheet : List ℕ) where
   sheet-words-fours = by-sheet (readSheet sheet) refl
     where
       by-sheet : (k : Sheet) → readSheet sheet ≡ k → recordRefusal k ≡ none → Fours (sheetWords k)
-      by-sheet noHeader e o = let z : _≡_ {A = ℕ} 0 1 = cc in absurd (omega arith)
-      by-sheet (wrong l) e o = let z : _≡_ {A = ℕ} 0 1 = cc in absurd (omega arith)
-      by-sheet (tasks []) e o = let z : _≡_ {A = ℕ} 0 1 = cc in absurd (omega arith)
+      by-sheet noHeader e o = impossible cc
+      by-sheet (wrong l) e o = impossible cc
+      by-sheet (tasks []) e o = impossible cc
       by-sheet (tasks (w ∷ ws)) e o = tasks-fours w ws e
 
   pub sheet-with-room : (table : List ℕ) → tableMost ≤ length table

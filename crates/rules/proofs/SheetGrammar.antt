@@ -14,6 +14,7 @@ use Rattle.rules.specs.Choice.{if_then_else_}
 use Rattle.rules.specs.Text.{afterKey}
 use Rattle.rules.specs.Sheet.{mark, crlf, Field, content, noField, byte, readPlain, readQuoted, afterQuote, readField, afterEnd, Step, more, last, noStep, lastOf, followed, nextField, Record, fields, noRecord, before, readRecord}
 use Rattle.rules.specs.Sheets.{doubled, Stands, Commas, Begins}
+use Rattle.rules.proofs.Booleans.{impossible}
 use Rattle.rules.proofs.LineTrips.{key-there, key-back}
 use Rattle.rules.proofs.Records.{double-other, more-shorter, record-more, record-last, record-none}
 
@@ -41,7 +42,7 @@ no-mark b p = rw (ne-eqb b 34 (p .0), ne-eqb b 44 (p .1), ne-eqb b 13 (p .2), ne
 first-byte : (b : ℕ) (f : Field) (c t : List ℕ) → byte b f ≡ content c t → (d : List ℕ) × (c ≡ b ∷ d) × (f ≡ content d t)
 unfolding byte
 first-byte b (content d s) c t e = let x : b ∷ d ≡ c = cc in let y : s ≡ t = cc in (d, sym x, ap (content d) y)
-first-byte b noField c t e = let z : _≡_ {A = ℕ} 0 1 = cc in absurd (omega arith)
+first-byte b noField c t e = impossible cc
 
 -- what a plain field was read from
 record Plain-was (s c t : List ℕ) : Type 0 where
@@ -84,7 +85,7 @@ mutual
   unfolding readQuoted doubled
 
   quoted-back : (s c t : List ℕ) → readQuoted s ≡ content c t → s ≡ doubled c ++ (34 ∷ t)
-  quoted-back [] c t e = let z : _≡_ {A = ℕ} 0 1 = cc in absurd (omega arith)
+  quoted-back [] c t e = impossible cc
   quoted-back (b ∷ s) c t e = by-quote (eqb b 34) refl e (λ a. quote-back s c t a) (λ d u a. quoted-back s d u a)
     where
       with-more : (d : List ℕ) → eqb b 34 ≡ false → c ≡ b ∷ d → s ≡ doubled d ++ (34 ∷ t) → b ∷ s ≡ doubled c ++ (34 ∷ t)
@@ -260,7 +261,7 @@ back-within (suc n) s h cs after e = by-step (nextField s) refl (next-was s) (λ
     by-record : (c t : List ℕ) → Field-was s c (44 ∷ t) → length t < length s → (r : Record) → readRecord t ≡ r → before c r ≡ fields cs after
         → ((t : List ℕ) → length t < length s → (ds : List (List ℕ)) (a : List ℕ) → readRecord t ≡ fields ds a → Record-was t ds a) → Record-was s cs after
     by-record c t f l (fields ds a) g e ih = let y : a ≡ after = cc in with-more c t f ds (ap (fields (c ∷ ds)) (sym y) ∙ e) (ih t l ds after (g ∙ ap (fields ds) y))
-    by-record c t f l noRecord g e ih = let z : _≡_ {A = ℕ} 0 1 = cc in absurd (omega arith)
+    by-record c t f l noRecord g e ih = impossible cc
 
     with-last : (c u t : List ℕ) → Field-was s c u → Ends u t → fields (c ∷ []) t ≡ fields cs after → Record-was s cs after
     with-last c u t f w e =
@@ -279,7 +280,7 @@ back-within (suc n) s h cs after e = by-step (nextField s) refl (next-was s) (λ
     by-step (more c t) x (Next-was.was-more f) ih =
         by-record c t (field-back s c (44 ∷ t) f) (more-shorter s c t x) (readRecord t) refl (sym (record-more s c t x) ∙ e) ih
     by-step (last c t) x (Next-was.was-last {u = u} f w) ih = with-last c u t (field-back s c u f) w (sym (record-last s c t x) ∙ e)
-    by-step noStep x w ih = let f = sym (record-none s x) ∙ e in let z : _≡_ {A = ℕ} 0 1 = cc in absurd (omega arith)
+    by-step noStep x w ih = let f = sym (record-none s x) ∙ e in impossible cc
 
 -- what stands as a record is read
 record-there : {cs : List (List ℕ)} {r : List ℕ} → Commas cs r → (u after : List ℕ) → Ends u after → readRecord (r ++ u) ≡ fields cs after

@@ -14,7 +14,7 @@ use Rattle.rules.specs.Choice.{if_then_else_}
 use Rattle.rules.specs.Text.{bytes, Read, got, bad, afterKey, readNumber, digits}
 use Rattle.rules.specs.Sheet.{nameOf, noneLeft, isName, times, columnFrom, goodHeader, whole, fieldNumber}
 use Rattle.rules.specs.Sheets.{Once}
-use Rattle.rules.proofs.Booleans.{true-is-not-false, both, both-true}
+use Rattle.rules.proofs.Booleans.{impossible, true-is-not-false, both, both-true}
 use Rattle.rules.proofs.ReadSteps.{more-none}
 use Rattle.rules.proofs.LineTrips.{number-back, number-stops, key-there, key-back}
 
@@ -134,8 +134,8 @@ number-exact c v = (λ e. by-read (readNumber c) refl e, λ p. there (p .0) (p .
         let was = number-back c w [] n in
         let same : w ≡ v = cc in
         (omega (arith, was .small), was .text ∙ append-nil (digits w) ∙ ap digits same)
-    by-read (got w (b ∷ s)) n e = let z : _≡_ {A = ℕ} 0 1 = cc in absurd (omega arith)
-    by-read bad n e = let z : _≡_ {A = ℕ} 0 1 = cc in absurd (omega arith)
+    by-read (got w (b ∷ s)) n e = impossible cc
+    by-read bad n e = impossible cc
 
     there : v < 100000 → c ≡ digits v → whole (readNumber c) ≡ some v
     there l e =

@@ -13,7 +13,7 @@ use borrow.Author.Tests.{eq-eqb, eqb-true}
 use Rattle.rules.specs.Choice.{if_then_else_}
 use Rattle.rules.specs.Sheet.{Record, fields, noRecord, readRecord, nameOf, columnFrom, goodHeader, columnsOf, fieldNumber, also, numbersIn, Row, row, noRow, rowOf, readRow, Sheet, tasks, wrong, noHeader, wordsAhead, orWrong, atRecord, readTasks, underHeader, readSheet}
 use Rattle.rules.specs.Sheets.{Begins, Once, Header, Under, Kernel, kernel, Tasks, NotDue}
-use Rattle.rules.proofs.Booleans.{true-is-not-false}
+use Rattle.rules.proofs.Booleans.{impossible, true-is-not-false}
 use Rattle.rules.proofs.SheetGrammar.{record-exact}
 use Rattle.rules.proofs.SheetNames.{column-is, header-exact, number-exact}
 
@@ -44,8 +44,8 @@ numbers-were cs (k ∷ ks) ws e = by-number (fieldNumber (getD cs (k - 1) [])) (
     by-number : (first : Option ℕ) (others : Option (List ℕ)) → fieldNumber (getD cs (k - 1) []) ≡ first → numbersIn ks cs ≡ others → also first others ≡ some ws
         → ((vs : List ℕ) → numbersIn ks cs ≡ some vs → Numbers cs ks vs) → Numbers cs (k ∷ ks) ws
     by-number (some v) (some vs) is are e later = let words : ws ≡ v ∷ vs = cc in rw words (column is (later vs are))
-    by-number (some v) none is are e later = let z : _≡_ {A = ℕ} 0 1 = cc in absurd (omega arith)
-    by-number none others is are e later = let z : _≡_ {A = ℕ} 0 1 = cc in absurd (omega arith)
+    by-number (some v) none is are e later = impossible cc
+    by-number none others is are e later = impossible cc
 
 -- a record that was read as a task: its fields, as many as due, and the numbers in their columns
 record Row-was (count : ℕ) (columns : List ℕ) (r : Record) (ws after : List ℕ) : Type 0 where
@@ -56,20 +56,20 @@ record Row-was (count : ℕ) (columns : List ℕ) (r : Record) (ws after : List 
 
 row-was : (count : ℕ) (columns : List ℕ) (r : Record) (ws after : List ℕ) → readRow count columns r ≡ row ws after → Row-was count columns r ws after
 unfolding readRow rowOf
-row-was count columns noRecord ws after e = let z : _≡_ {A = ℕ} 0 1 = cc in absurd (omega arith)
+row-was count columns noRecord ws after e = impossible cc
 row-was count columns (fields cs rest) ws after e = by-count (eqb (length cs) count) refl e
   where
     by-numbers : length cs ≡ count → (o : Option (List ℕ)) → numbersIn columns cs ≡ o → rowOf o rest ≡ row ws after → Row-was count columns (fields cs rest) ws after
-    by-numbers as-many none n e = let z : _≡_ {A = ℕ} 0 1 = cc in absurd (omega arith)
+    by-numbers as-many none n e = impossible cc
     by-numbers as-many (some us) n e = record { cs = cs; from = cc; as-many = as-many; numbers = numbers-were cs columns ws (cc) }
 
     by-count : (t : Bool) → eqb (length cs) count ≡ t → (if t then rowOf (numbersIn columns cs) rest else noRow) ≡ row ws after → Row-was count columns (fields cs rest) ws after
     by-count true t e = by-numbers (eqb-true (length cs) count t) (numbersIn columns cs) refl e
-    by-count false t e = let z : _≡_ {A = ℕ} 0 1 = cc in absurd (omega arith)
+    by-count false t e = impossible cc
 
 -- while bytes are left there is a record more
 some-byte : (b : ℕ) (s : List ℕ) → _≡_ {A = List ℕ} (b ∷ s) [] → ⊥
-some-byte b s e = let z : _≡_ {A = ℕ} 0 1 = cc in omega arith
+some-byte b s e = impossible cc
 
 at-bytes : (s : List ℕ) → (s ≡ [] → ⊥) → (x : Sheet) → atRecord s x ≡ x
 unfolding atRecord
@@ -149,7 +149,7 @@ module _ (hs : List (List ℕ)) where
         by-row : (r : Row) → readRow (length hs) (columnsOf hs) (readRecord (b ∷ s)) ≡ r → ((after : List ℕ) → Gives n (suc l) after (read n (suc l) after))
             → Gives (suc n) l (b ∷ s) (orWrong l r (λ rest. read n (suc l) rest))
         by-row (row ws after) e later = by-later (row-back (b ∷ s) ws after e) (read n (suc l) after) (later after)
-        by-row noRow e later = NotDue.this (some-byte b s) (λ ws after due. let x = row-there due in let z : _≡_ {A = ℕ} 0 1 = cc in omega arith)
+        by-row noRow e later = NotDue.this (some-byte b s) (λ ws after due. let x = row-there due in impossible cc)
 
     -- a record more, where there are bytes: it is as due, or it is not, or it may not come
     module _ {s : List ℕ} (bytes-left : s ≡ [] → ⊥) where
@@ -236,8 +236,7 @@ module _ (s : List ℕ) where
       by-record (fields hs after) e = by-names hs after e (goodHeader hs) refl
       by-record noRecord e = λ hs after H.
           let read = record-exact s hs after .1 (H .begins) in
-          let z : _≡_ {A = ℕ} 0 1 = cc in
-          omega arith
+          impossible cc
 
   pub sheet-none : (readSheet s ≡ noHeader) ↔ ((hs : List (List ℕ)) (after : List ℕ) → Header s hs after → ⊥)
   sheet-none = (λ e. subst Told e told, λ none-is. by-sheet none-is (readSheet s) told)

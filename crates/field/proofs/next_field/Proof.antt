@@ -9,7 +9,8 @@ use borrow.Author.Needs.{needs}
 use borrow.Author.Tests.{not-true, not-false}
 use Rattle.rules.specs.Sheet.{content, afterEnd, more, lastOf, readField, nextField}
 use Rattle.rules.specs.Standing.{standing, standingStep}
-use Rattle.rules.proofs.FieldSteps.{impossible, next-comma, next-end, next-other}
+use Rattle.rules.proofs.Booleans.{impossible}
+use Rattle.rules.proofs.FieldSteps.{next-comma, next-end, next-other}
 use Rattle.rules.proofs.Slices.{part}
 use Rattle.field.proofs.Fields.{the-field, no-field, the-end, no-end}
 use Rattle.field.proofs.next_field.Statement.{statement}
@@ -74,8 +75,8 @@ returns-2 c =
     let rest = after read in
     record {
       says = ap (more (inside read)) (part 1 rest) ∙ sym (next-comma _ _ rest (is-field (at-after .before)) (at-after .if2 .taken) (at-comma .if3 .taken));
-      keeps-body = λ e. impossible (cc);
-      keeps-rest = λ e. impossible (cc);
+      keeps-body = λ e. impossible cc;
+      keeps-rest = λ e. impossible cc;
     }
 
 end-record-requires : tie.Need-end-record-requires
@@ -98,8 +99,8 @@ returns-4 c =
     let searched = c .before .end-record in
     record {
       says = sym (no-comma (c .before .before .before) ∙ the-end _ _ _ (searched .result) (searched .ensures .says) (not-false (searched .result) (c .if4 .left)));
-      keeps-body = λ e. impossible (cc);
-      keeps-rest = λ e. impossible (cc);
+      keeps-body = λ e. impossible cc;
+      keeps-rest = λ e. impossible cc;
     }
 
 pub next-field-spec : {M : Type 1} → statement M

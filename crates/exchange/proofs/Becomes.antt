@@ -58,7 +58,7 @@ module _ (source : Source) (input : List ℕ) where
     unfolding exchanged
     is-unfit r e f = rw (le-ltb _ _ short, e, f)
 
-    is-fine : readingRefusal source input ≡ none → tableRefusal (wordsIn source input) ≡ none
+    pub is-fine : readingRefusal source input ≡ none → tableRefusal (wordsIn source input) ≡ none
         → made (written source (wordsIn source input)) ≡ exchanged source input
     unfolding exchanged
     is-fine e f = rw (le-ltb _ _ short, e, f)

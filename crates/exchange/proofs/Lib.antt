@@ -3,3 +3,4 @@ mod Sentences
 mod Tellable
 mod Becomes
 pub mod Outcome
+pub mod Pipe

@@ -10,7 +10,7 @@ use Rattle.rules.specs.Choice.{if_then_else_}
 use Rattle.rules.specs.Numbers.{tableMost, inputMost}
 use Rattle.rules.specs.Refusals.{numberOf, firstOf, answering, lent}
 use Rattle.rules.specs.Table.{wordLeast, tableRefusal}
-use Rattle.rules.specs.Text.{bytes, digits, readSet, wordsRead, writeSet}
+use Rattle.rules.specs.Text.{bytes, digits, took, readSet, wordsRead, writeSet}
 use Rattle.rules.specs.Sheet.{nameOf, readSheet, sheetWords, writeSheet}
 use Rattle.rules.specs.Answers.{lineRefusal, recordRefusal}
 use Rattle.rules.specs.declared.Refusal.{Refusal}
@@ -126,3 +126,12 @@ GivesOne = (outcome : Outcome) (out : List ℕ) (a b : Made) (e f : List ℕ) �
 -- every refusal that is told has words for what is wrong
 abbrev pub AllWorded : Type 0
 AllWorded = (source : Source) (input : List ℕ) (r : Refusal) → refusalOf source input ≡ some r → wrongIn source r ≡ [] → ⊥
+
+-- THE PIPE: what is made of a sheet is a text that is read, whole, as the sheet's words
+abbrev pub Piped : Type 0
+Piped = (sheet text : List ℕ) → exchanged Source.Sheet sheet ≡ made text → readSet text ≡ took (sheetWords (readSheet sheet)) []
+
+-- and what is made of a text's first set is a sheet of which that set's bytes are made again
+abbrev pub ThereAndBack : Type 0
+ThereAndBack = (text sheet words rest : List ℕ) → readSet text ≡ took words rest → exchanged Source.Text text ≡ made sheet
+    → (set : List ℕ) × (exchanged Source.Sheet sheet ≡ made set) × (set ++ rest ≡ text)

@@ -17,8 +17,9 @@ use Rattle.rules.specs.declared.WriteAnswer.{WriteAnswer}
 use Rattle.rules.proofs.Booleans.{impossible}
 use Rattle.rules.proofs.TextLengths.{text-most, sheet-most}
 use Rattle.rules.proofs.Rooms.{Fours, read-with-room, sheet-with-room, write-with-room, was-refused, was-done}
-use Rattle.exchange.specs.Exchange.{readingRefusal, wordsIn, written, sentence, tooLong, Outcome, made, told, exchanged, madeMost, InTable, ReadsTable, Gives}
-use Rattle.exchange.specs.declared.Source.{Source}
+use Rattle.exchange.specs.Exchange.{readingRefusal, wordsIn, written, Outcome, made, told, exchanged, madeMost, ReadsTable, Gives}
+use Rattle.wording.specs.declared.Source.{Source}
+use Rattle.wording.specs.Wording.{sentence, tooLong, InTable}
 use Rattle.exchange.specs.declared.Made.{Made}
 use Rattle.exchange.proofs.Tellable.{words-fours, reading-tellable, table-tellable}
 

@@ -1,5 +1,4 @@
--- Laws of the sentences and of what becomes of an input, and what the exchange's promise tells.
-mod Sentences
+-- Laws of what becomes of an input, and what the exchange's promise tells.
 mod Tellable
 mod Becomes
 pub mod Outcome

@@ -21,8 +21,9 @@ use Rattle.rules.proofs.Tables.{valid-of}
 use Rattle.rules.proofs.SetTrips.{write-then-read, set-back}
 use Rattle.rules.proofs.SheetTrips.{sheet-then-table}
 use Rattle.rules.proofs.TextLengths.{sheet-most}
-use Rattle.exchange.specs.Exchange.{readingRefusal, wordsIn, written, sentence, tooLong, Outcome, made, told, exchanged, Piped, ThereAndBack}
-use Rattle.exchange.specs.declared.Source.{Source}
+use Rattle.exchange.specs.Exchange.{readingRefusal, wordsIn, written, made, told, exchanged, Piped, ThereAndBack}
+use Rattle.wording.specs.declared.Source.{Source}
+use Rattle.wording.specs.Wording.{sentence, tooLong}
 use Rattle.exchange.proofs.Becomes.{is-fine}
 
 -- what was made is written of the input's words, a table that is not refused
@@ -56,8 +57,7 @@ there-and-back text sheet words rest e f =
     let fine : tableRefusal words ≡ none = ap (λ (k : Lines). tableRefusal (wordsRead k)) (sym e) ∙ m .0 in
     let is : sheet ≡ writeSheet words = m .1 ∙ ap (λ (k : Lines). writeSheet (wordsRead k)) e in
     let read : readSheet sheet ≡ tasks words = ap readSheet is ∙ sheet-then-table words fine in
-    let unrefused : recordRefusal (readSheet sheet) ≡ none = ap recordRefusal read ∙ some-tasks words (omega (arith, valid-of words fine .words, valid-of words fine .some-task)) in
-    (
+    let unrefused : recordRefusal (readSheet sheet) ≡ none = ap recordRefusal read ∙ some-tasks words (omega (arith, valid-of words fine .words, valid-of words fine .some-task)) in (
       writeSet words,
       sym (is-fine Source.Sheet sheet (omega (arith, ap length is, sheet-most words fine)) unrefused (ap (λ (k : Sheet). tableRefusal (sheetWords k)) read ∙ fine))
           ∙ ap (λ (k : Sheet). made (writeSet (sheetWords k))) read,

@@ -15,8 +15,9 @@ use Rattle.rules.specs.declared.Refusal.the-variants.{OutOfRange, NoHeader, Bad
 use Rattle.rules.proofs.Booleans.{impossible, chosen}
 use Rattle.rules.proofs.Refused.{TableSays, table-says}
 use Rattle.rules.proofs.Rooms.{Fours, set-fours, sheet-words-fours}
-use Rattle.exchange.specs.Exchange.{wrongIn, readingRefusal, wordsIn, InTable}
-use Rattle.exchange.specs.declared.Source.{Source}
+use Rattle.exchange.specs.Exchange.{readingRefusal, wordsIn}
+use Rattle.wording.specs.declared.Source.{Source}
+use Rattle.wording.specs.Wording.{wrongIn, InTable}
 
 pub record Tellable (source : Source) (r : Refusal) : Type 0 where
   pub named : InTable r

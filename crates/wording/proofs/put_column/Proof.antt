@@ -1,9 +1,9 @@
--- `exchange::put_column` meets its contract: each arm puts the name of its number, the last that of 3.
+-- `wording::put_column` meets its contract: each arm puts the name of its number, the last that of 3.
 use mathlib.Core.Path.{_≡_}
 use native.Mathlib.Omega.{arith}
 use borrow.Author.Needs.{needs}
-use Rattle.exchange.proofs.put_column.Statement.{statement}
-use Rattle.exchange.proofs.put_column.Tie as tie
+use Rattle.wording.proofs.put_column.Statement.{statement}
+use Rattle.wording.proofs.put_column.Tie as tie
 
 slice-aggregate-put-bytes : tie.Need-slice-aggregate-put-bytes
 slice-aggregate-put-bytes c = search needs

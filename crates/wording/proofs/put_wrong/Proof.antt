@@ -1,9 +1,9 @@
--- `exchange::put_wrong` meets its contract: each arm puts the words for the refusal that it has found, and the last puts none.
+-- `wording::put_wrong` meets its contract: each arm puts the words for the refusal that it has found, and the last puts none.
 use Rattle.print.proofs.Parts.{nothing}
-use Rattle.exchange.proofs.Sentences.{no-words}
+use Rattle.wording.proofs.Sentences.{no-words}
 use borrow.Author.Needs.{needs}
-use Rattle.exchange.proofs.put_wrong.Statement.{statement}
-use Rattle.exchange.proofs.put_wrong.Tie as tie
+use Rattle.wording.proofs.put_wrong.Statement.{statement}
+use Rattle.wording.proofs.put_wrong.Tie as tie
 
 enum-told : tie.Need-enum-told
 enum-told c = search needs

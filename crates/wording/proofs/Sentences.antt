@@ -1,5 +1,5 @@
 -- The sentences: there is room for each, and a refusal other than 4, 7, 13, 14 and 15 has no words.
-use mathlib.Core.Path.{_≡_, refl, ap, _∙_}
+use mathlib.Core.Path.{_≡_, refl}
 use Prim.Native.Nat.{ℕ, zero, suc, _+_, _/_, _%_, _≤_}
 use Prim.Native.String.{String}
 use native.Mathlib.Omega.{arith}
@@ -17,11 +17,8 @@ use Rattle.rules.specs.declared.Refusal.the-variants.{NoWord, NotFours, TooMany
 use Rattle.rules.proofs.Refusal.{the-type}
 use Rattle.rules.proofs.Booleans.{chosen}
 use Rattle.rules.proofs.Digits.{digits-most}
-use Rattle.print.specs.Place.{Puts}
-use Rattle.print.proofs.Putting.{put-start}
-use Rattle.exchange.specs.Exchange.{phrase, place, badRecord, wrongIn, sentence, told, madeMost, Gives}
-use Rattle.exchange.specs.declared.Source.{Source}
-use Rattle.exchange.specs.declared.Made.{Made}
+use Rattle.wording.specs.Wording.{phrase, place, badRecord, wrongIn, sentence}
+use Rattle.wording.specs.declared.Source.{Source}
 
 -- the refusals that the code gives no arm have no words
 abbrev pub others : List ℕ
@@ -76,14 +73,8 @@ wrong-most source BadEnd = omega arith
 wrong-most source TooShort = omega arith
 wrong-most source NotMisses = omega arith
 
--- a sentence has less than 2,057 bytes
-pub sentence-most : (source : Source) (r : Refusal) → length (sentence source r) ≤ madeMost
+-- a sentence has at most 133 bytes
+pub sentence-most : (source : Source) (r : Refusal) → length (sentence source r) ≤ 133
 sentence-most source r =
     let number = phrase " (refusal " (numberOf r) ")\n" in
     omega (arith, length-append (wrongIn source r) number, wrong-most source r, phrase-most " (refusal " (numberOf r) ")\n")
-
--- bytes put at the start are told
-pub told-so : {old exit : List ℕ} {size : ℕ} (vs : List ℕ) → Puts old 0 vs size exit → Gives (told vs) old (Made.Told size) exit
-told-so {old} vs p =
-    let n : 0 + length vs ≡ length vs = omega arith in
-    record { says = ap Made.Told (p .says ∙ n); leaves = p .leaves ∙ put-start old vs }

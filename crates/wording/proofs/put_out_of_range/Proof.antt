@@ -1,10 +1,10 @@
--- `exchange::put_out_of_range` meets its contract: the place, and after it the range, whose least value is that of the table.
+-- `wording::put_out_of_range` meets its contract: the place, and after it the range, whose least value is that of the table.
 use Rattle.rules.specs.Table.{wordLeast}
 use Rattle.print.proofs.Parts.{first-fits, second-fits, both}
-use Rattle.exchange.specs.Exchange.{phrase, place}
+use Rattle.wording.specs.Wording.{phrase, place}
 use borrow.Author.Needs.{needs}
-use Rattle.exchange.proofs.put_out_of_range.Statement.{statement}
-use Rattle.exchange.proofs.put_out_of_range.Tie as tie
+use Rattle.wording.proofs.put_out_of_range.Statement.{statement}
+use Rattle.wording.proofs.put_out_of_range.Tie as tie
 
 put-place-requires : tie.Need-put-place-requires
 put-place-requires c κs =

@@ -1,13 +1,13 @@
--- `exchange::put_place` meets its contract: each arm puts the two parts of the place that it has found, one after the other.
+-- `wording::put_place` meets its contract: each arm puts the two parts of the place that it has found, one after the other.
 use Prim.Native.Nat.{_+_, _/_, _%_}
 use native.Mathlib.Omega.{arith}
 use Rattle.rules.specs.Text.{bytes, digits}
 use Rattle.rules.specs.Sheet.{nameOf}
 use Rattle.print.proofs.Parts.{first-fits, second-fits, both}
-use Rattle.exchange.specs.Exchange.{phrase}
+use Rattle.wording.specs.Wording.{phrase}
 use borrow.Author.Needs.{needs}
-use Rattle.exchange.proofs.put_place.Statement.{statement}
-use Rattle.exchange.proofs.put_place.Tie as tie
+use Rattle.wording.proofs.put_place.Statement.{statement}
+use Rattle.wording.proofs.put_place.Tie as tie
 
 enum-told : tie.Need-enum-told
 enum-told c = search needs

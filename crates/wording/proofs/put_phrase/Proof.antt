@@ -1,12 +1,12 @@
--- `exchange::put_phrase` meets its contract: its three parts are put one after the other.
+-- `wording::put_phrase` meets its contract: its three parts are put one after the other.
 use Prim.Native.Nat.{_+_, _≤_}
 use mathlib.Core.List.{_++_}
 use lib.ListN.{length}
 use Rattle.rules.specs.Text.{digits}
 use Rattle.print.proofs.Parts.{first-fits, second-fits, both}
 use borrow.Author.Needs.{needs}
-use Rattle.exchange.proofs.put_phrase.Statement.{statement}
-use Rattle.exchange.proofs.put_phrase.Tie as tie
+use Rattle.wording.proofs.put_phrase.Statement.{statement}
+use Rattle.wording.proofs.put_phrase.Tie as tie
 
 -- after the first words there is room for the number and the last words
 room : (after-words : tie.After-put-bytes)

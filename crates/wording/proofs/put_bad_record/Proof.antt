@@ -1,8 +1,8 @@
--- `exchange::put_bad_record` meets its contract: each arm puts the words for the number that it has found.
+-- `wording::put_bad_record` meets its contract: each arm puts the words for the number that it has found.
 use borrow.Author.Needs.{needs}
 use borrow.Author.Tests.{eq-eqb, ne-eqb}
-use Rattle.exchange.proofs.put_bad_record.Statement.{statement}
-use Rattle.exchange.proofs.put_bad_record.Tie as tie
+use Rattle.wording.proofs.put_bad_record.Statement.{statement}
+use Rattle.wording.proofs.put_bad_record.Tie as tie
 
 slice-aggregate-put-phrase : tie.Need-slice-aggregate-put-phrase
 slice-aggregate-put-phrase c = search needs

@@ -1,0 +1,2 @@
+-- The words for what is wrong.
+pub mod Wording

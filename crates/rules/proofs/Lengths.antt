@@ -47,12 +47,12 @@ blocker-most : (b : Blocker) → length (line (bytes "blocker=") (blockerWord b)
 blocker-most (Blocker.Task k) = number-line (bytes "blocker=") k
 blocker-most Blocker.Nobody = omega (arith, line-length (bytes "blocker=") (bytes "none"))
 
-verdict-most : (v : Verdict) → length (verdictLines v) ≤ 52
+verdict-most : (v : Verdict) → length (verdictLines v) ≤ 68
 verdict-most (Verdict.Meets σ) =
     simp length-append (omega (arith, line-length (bytes "verdict=") (bytes "meets"), number-line (bytes "span=") σ))
-verdict-most (Verdict.Misses L b) =
+verdict-most (Verdict.Misses L b over) =
     simp length-append
-    (omega (arith, line-length (bytes "verdict=") (bytes "misses"), number-line (bytes "length=") L, blocker-most b))
+    (omega (arith, line-length (bytes "verdict=") (bytes "misses"), number-line (bytes "length=") L, blocker-most b, number-line (bytes "over=") over))
 verdict-most Verdict.TooFar = omega (arith, line-length (bytes "verdict=") (bytes "toofar"))
 
 carried-most : (c : Carried) → length (carriedLine c) ≤ 18
@@ -62,14 +62,14 @@ carried-most (Carried.Line l) = omega (arith, number-line (bytes "line=") l)
 carried-most (Carried.Record l) = number-line (bytes "record=") l
 
 -- an answer's lines
-pub answer-most : (a : VerdictAnswer) → length (answerLines a) ≤ 52
+pub answer-most : (a : VerdictAnswer) → length (answerLines a) ≤ 68
 answer-most (VerdictAnswer.Judged v) = verdict-most v
 answer-most (VerdictAnswer.Refused r) =
     simp length-append (omega (arith, number-line (bytes "refused=") (entry r .number), carried-most (entry r .carries)))
 
--- a set's lines, whatever its answer: 67 bytes at most
-pub said-most : (n : ℕ) (a : VerdictAnswer) → length (line (bytes "set=") (digits n) ++ answerLines a) ≤ 67
+-- a set's lines, whatever its answer: 83 bytes at most
+pub said-most : (n : ℕ) (a : VerdictAnswer) → length (line (bytes "set=") (digits n) ++ answerLines a) ≤ 83
 said-most n a = simp length-append (omega (arith, number-line (bytes "set=") n, answer-most a))
 
-pub lines-most : (n : ℕ) (text : List ℕ) → length (setLines n text) ≤ 67
+pub lines-most : (n : ℕ) (text : List ℕ) → length (setLines n text) ≤ 83
 lines-most n text = omega (arith, ap length (lines-are n text), said-most n (firstAnswer text))

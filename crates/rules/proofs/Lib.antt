@@ -25,13 +25,14 @@ pub mod Trains
 pub mod Members
 pub mod Planned
 pub mod Blockers
--- demand 3: the verdict's three lines, meets, misses, the least length
+-- demand 3: the verdict's three lines, meets, misses, the least length, the excess
 pub mod Verdicts
 pub mod Loads
 pub mod Meets
 pub mod Overfull
 pub mod Misses
 pub mod BelowTheSpan
+pub mod Excess
 -- the walk over the tasks and the two looks, as code makes them
 pub mod TasksLeft
 pub mod LongestWait

@@ -15,7 +15,7 @@ use Rattle.rules.specs.Table.{wordLeast, inRange, outOfRange, tableRefus
 use Rattle.rules.specs.Dispatch.{finish, late, before, sooner, pick, same, without, earliest, ready, rows, dispatch, lateJob, rowWords}
 use Rattle.rules.specs.Jobs.{train, trains, countBefore, concreteTrain, planned, concrete, namedTrain}
 use Rattle.rules.specs.Numbers.{endMost, horizon}
-use Rattle.rules.specs.Demand.{countWithin, due, Due, wait, Wait, fails, ceiling, work, closes, firstFail, span, firstWaiting, blocker, verdict}
+use Rattle.rules.specs.Demand.{countWithin, due, Due, wait, Wait, fails, excess, ceiling, work, closes, firstFail, span, firstWaiting, blocker, verdict}
 use Rattle.rules.specs.Answers.{scheduleRows, isMisses, namedBy, patternRows, scheduleAnswer, scheduleBuffer, verdictAnswer, patternAnswer, patternBuffer}
 use Rattle.rules.specs.Stars.{set, Outcome, meets, misses, onTime, pattern, Star, stars, Right, Stars}
 use Rattle.rules.specs.declared.Blocker.{Blocker}
@@ -81,7 +81,12 @@ blocker-true Blocker.Nobody Blocker.Nobody e = refl
 tests : List ℕ → Outcome → List Bool
 tests w (meets σ) =
     just σ (least (λ t. closes t (tasksOf w)) σ 1) ∷ nothing (least (λ L. fails L (tasksOf w)) (σ - 1) 1) ∷ leb σ horizon ∷ []
-tests w (misses L b) = just L (least (λ K. fails K (tasksOf w)) L 1) ∷ one-blocker (blocker L (tasksOf w)) b ∷ leb L horizon ∷ []
+tests w (misses L b over) =
+    just L (least (λ K. fails K (tasksOf w)) L 1)
+    ∷ one-blocker (blocker L (tasksOf w)) b
+    ∷ eqb over (excess L (tasksOf w))
+    ∷ leb L horizon
+    ∷ []
 tests w (onTime z n words) =
     leb 1 z
     ∷ leb z endMost
@@ -127,8 +132,9 @@ module _ (ts : List Task) (sound : AllSound ts) where
       let f = first-of (λ t. closes t ts) σ c h in
       meets-when ts σ .1 (none-fails σ (f .low) (f .passes) e, f)
 
-  misses-right : (L : ℕ) (b : Blocker) → least (λ K. fails K ts) L 1 ≡ some L → b ≡ blocker L ts → L ≤ horizon → verdict ts ≡ Verdict.Misses L b
-  misses-right L b e i h = misses-when ts L b .1 (first-of (λ K. fails K ts) L e h, i)
+  misses-right : (L : ℕ) (b : Blocker) (over : ℕ) → least (λ K. fails K ts) L 1 ≡ some L → b ≡ blocker L ts → over ≡ excess L ts → L ≤ horizon
+      → verdict ts ≡ Verdict.Misses L b over
+  misses-right L b over e i j h = misses-when ts L b over .1 (first-of (λ K. fails K ts) L e h, i, j)
 
 -- a buffer that just holds the rows is filled with them
 filled : (xs out : List ℕ) → length out ≡ length xs → xs ++ drop (length xs) out ≡ xs
@@ -159,10 +165,10 @@ right w (meets σ) f e =
     rw f
     (ap VerdictAnswer.Judged
     (meets-right (tasksOf w) (table-sound w f) σ (just-true σ _ (e .0)) (nothing-true _ (e .1 .0)) (leb-true _ _ (e .1 .1 .0))))
-right w (misses L b) f e =
+right w (misses L b over) f e =
     rw f
     (ap VerdictAnswer.Judged
-    (misses-right (tasksOf w) (table-sound w f) L b (just-true L _ (e .0)) (blocker-true _ b (e .1 .0)) (leb-true _ _ (e .1 .1 .0))))
+    (misses-right (tasksOf w) (table-sound w f) L b over (just-true L _ (e .0)) (blocker-true _ b (e .1 .0)) (eqb-true _ _ (e .1 .1 .0)) (leb-true _ _ (e .1 .1 .1 .0))))
 right w (onTime z n words) f e = λ out h.
     schedule-right w f n words out h z (leb-true _ _ (e .0)) (leb-true _ _ (e .1 .0)) (eqb-true _ _ (e .1 .1 .0)) (alike-true _ _ (e .1 .1 .1 .0)) (nothing-true _ (e .1 .1 .1 .1 .0))
 right w (pattern n words) f e = λ out h.
@@ -185,7 +191,7 @@ rows-right (r ∷ ss) e s (List·Memᴰ·tail m) = rows-right ss (both-true (eve
 
 -- they all pass
 table-passes : passes stars ≡ true
-unfolding tests wordLeast inRange outOfRange tableRefusal tasksOf least due Due wait Wait fails ceiling work closes firstFail span firstWaiting blocker verdict train trains countBefore concreteTrain planned countWithin namedTrain finish late before sooner pick same without earliest ready rows dispatch lateJob rowWords
+unfolding tests wordLeast inRange outOfRange tableRefusal tasksOf least due Due wait Wait fails excess ceiling work closes firstFail span firstWaiting blocker verdict train trains countBefore concreteTrain planned countWithin namedTrain finish late before sooner pick same without earliest ready rows dispatch lateJob rowWords
 table-passes = refl
 
 -- every star holds

@@ -13,7 +13,7 @@ use Rattle.rules.specs.Choice.{least}
 use Rattle.rules.specs.Task.{AllSound}
 use Rattle.rules.specs.declared.Task.{Task}
 use Rattle.rules.specs.Numbers.{horizon}
-use Rattle.rules.specs.Demand.{countWithin, due, Due, wait, Wait, fails, ceiling, work, closes, firstFail, span, blocker, judge, verdict}
+use Rattle.rules.specs.Demand.{countWithin, due, Due, wait, Wait, fails, excess, ceiling, work, closes, firstFail, span, blocker, judge, verdict}
 use Rattle.rules.specs.declared.Blocker.{Blocker}
 use Rattle.rules.specs.declared.Verdict.{Verdict}
 use Rattle.rules.proofs.Booleans.{both, both-true, true-is-not-false, lt-or-ge}
@@ -64,13 +64,15 @@ module _ (ts : List Task) where
   closes-when t = (leb-true _ _, le-leb _ _)
 
   -- which searches give which verdict
-  misses-of : (o s : Option ℕ) (L : ℕ) (b : Blocker) → judge o s ts ≡ Verdict.Misses L b → (o ≡ some L) × (b ≡ blocker L ts)
-  misses-of (some K) s L b e =
+  misses-of : (o s : Option ℕ) (L : ℕ) (b : Blocker) (over : ℕ) → judge o s ts ≡ Verdict.Misses L b over
+      → (o ≡ some L) × (b ≡ blocker L ts) × (over ≡ excess L ts)
+  misses-of (some K) s L b over e =
       let i : K ≡ L = cc in
       let j : b ≡ blocker K ts = cc in
-      (ap some i, j ∙ ap (λ (x : ℕ). blocker x ts) i)
-  misses-of none (some σ) L b e = let z : _≡_ {A = ℕ} 0 1 = cc in absurd (omega arith)
-  misses-of none none L b e = let z : _≡_ {A = ℕ} 0 1 = cc in absurd (omega arith)
+      let k : over ≡ excess K ts = cc in
+      (ap some i, j ∙ ap (λ (x : ℕ). blocker x ts) i, k ∙ ap (λ (x : ℕ). excess x ts) i)
+  misses-of none (some σ) L b over e = let z : _≡_ {A = ℕ} 0 1 = cc in absurd (omega arith)
+  misses-of none none L b over e = let z : _≡_ {A = ℕ} 0 1 = cc in absurd (omega arith)
 
   meets-of : (o s : Option ℕ) (σ : ℕ) → judge o s ts ≡ Verdict.Meets σ → (o ≡ none) × (s ≡ some σ)
   meets-of (some K) s σ e = let z : _≡_ {A = ℕ} 0 1 = cc in absurd (omega arith)
@@ -82,12 +84,15 @@ module _ (ts : List Task) where
   too-far-of none (some t) e = let z : _≡_ {A = ℕ} 0 1 = cc in absurd (omega arith)
   too-far-of none none e = (refl, refl)
 
-  -- MISSES exactly when some L from 1 to H fails; it carries the least such L, and the blocker
-  pub misses-when : (L : ℕ) (b : Blocker) → (verdict ts ≡ Verdict.Misses L b) ↔ (First (λ K. fails K ts) L × (b ≡ blocker L ts))
+  -- MISSES exactly when some L from 1 to H fails; it carries the least such L, its blocker and its excess
+  pub misses-when : (L : ℕ) (b : Blocker) (over : ℕ)
+      → (verdict ts ≡ Verdict.Misses L b over) ↔ (First (λ K. fails K ts) L × (b ≡ blocker L ts) × (over ≡ excess L ts))
   unfolding verdict firstFail
-  misses-when L b = (
-    λ e. let h = misses-of (firstFail ts) (span ts) L b e in (first-when (λ K. fails K ts) L .0 (h .0), h .1),
-    λ h. ap (λ (o : Option ℕ). judge o (span ts) ts) (first-when (λ K. fails K ts) L .1 (h .0)) ∙ ap (Verdict.Misses L) (sym (h .1)),
+  misses-when L b over = (
+    λ e. let h = misses-of (firstFail ts) (span ts) L b over e in (first-when (λ K. fails K ts) L .0 (h .0), h .1, h .2),
+    λ h.
+        ap (λ (o : Option ℕ). judge o (span ts) ts) (first-when (λ K. fails K ts) L .1 (h .0))
+        ∙ rw (h .1, h .2),
   )
 
   -- MEETS exactly when no such L fails and the span exists and is at most H; it carries the span
@@ -115,7 +120,7 @@ module _ (ts : List Task) where
   )
 
 -- a quotient, and a quotient rounded up, grow with the number
-div-grows : (a b k : ℕ) → a ≤ b → a / k ≤ b / k
+pub div-grows : (a b k : ℕ) → a ≤ b → a / k ≤ b / k
 div-grows a b zero h = rw (div-zero a, div-zero b) (omega arith)
 div-grows a b (suc k) h = le-div-iff-mul-le {k = suc k} (omega arith) .1 (le-trans (div-mul-le-self a (suc k)) h)
 
@@ -178,7 +183,7 @@ Wait-falls [] K L h = omega arith
 Wait-falls (τ ∷ ts) K L h = omega (arith, wait-falls K L τ h, Wait-falls ts K L h)
 
 -- nothing is due within no time, of tasks with D of 1 or more
-Due-nought : (ts : List Task) → AllSound ts → Due 0 ts ≡ 0
+pub Due-nought : (ts : List Task) → AllSound ts → Due 0 ts ≡ 0
 unfolding Due
 Due-nought [] sound = refl
 Due-nought (τ ∷ ts) sound =

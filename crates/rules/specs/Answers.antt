@@ -140,13 +140,13 @@ verdictAnswer table = answering (tableRefusal table) VerdictAnswer.Refused (Verd
 -- THE PATTERN BEHIND A "MISSES"
 abbrev pub isMisses : Verdict → Bool
 isMisses (Verdict.Meets σ) = false
-isMisses (Verdict.Misses L b) = true
+isMisses (Verdict.Misses L b over) = true
 isMisses Verdict.TooFar = false
 
 -- the jobs of the pattern that a verdict names
 abbrev pub namedBy : Verdict → List ℕ → List Job
 namedBy (Verdict.Meets σ) table = []
-namedBy (Verdict.Misses L b) table = named L (tasksOf table)
+namedBy (Verdict.Misses L b over) table = named L (tasksOf table)
 namedBy Verdict.TooFar table = []
 
 -- its rows

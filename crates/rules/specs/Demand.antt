@@ -1,4 +1,4 @@
--- The verdict over all arrivals. Document 01, "The verdict over all arrivals".
+-- The verdict over all arrivals. Document 01, "The verdict over all arrivals"; document 02, 3/14.
 use Prim.Native.Nat.{ℕ, suc, _+_, _-_, _*_, _/_, max, _≤_, _<_}
 use mathlib.Core.List.{List, [], _∷_}
 use mathlib.Core.Bool.{Bool, _&&_}
@@ -38,6 +38,10 @@ Wait L (τ ∷ ts) = max (wait L τ) (Wait L ts)
 unfoldable pub fails : ℕ → List Task → Bool
 fails L ts = leb 1 (Due L ts) && ltb L (Due L ts + Wait L ts)
 
+-- the excess: Due(L) + Wait(L) − L
+unfoldable pub excess : ℕ → List Task → ℕ
+excess L ts = Due L ts + Wait L ts - L
+
 -- t / T rounded up
 unfoldable pub ceiling : ℕ → ℕ → ℕ
 ceiling t T = (t + T - 1) / T
@@ -75,9 +79,9 @@ pub record Blocks (L : ℕ) (ts : List Task) (b : ℕ) : Type 0 where
   pub greatest : (k : ℕ) → k < length ts → L < taskAt ts k .D → taskAt ts k .C ≤ taskAt ts b .C
   pub lowest : (k : ℕ) → k < b → L < taskAt ts k .D → taskAt ts k .C < taskAt ts b .C
 
--- misses with the least L that fails; else meets with the span; else too far
+-- misses with the least L that fails, its blocker and its excess; else meets with the span; else too far
 abbrev pub judge : Option ℕ → Option ℕ → List Task → Verdict
-judge (some L) σ ts = Verdict.Misses L (blocker L ts)
+judge (some L) σ ts = Verdict.Misses L (blocker L ts) (excess L ts)
 judge none (some σ) ts = Verdict.Meets σ
 judge none none ts = Verdict.TooFar
 

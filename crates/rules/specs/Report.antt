@@ -1,4 +1,4 @@
--- What the program prints. Document 01, "The program and the C call".
+-- What the program prints. Document 01, "The program and the C call"; document 02, 3/14.
 use Prim.Native.Nat.{ℕ, zero, suc}
 use mathlib.Core.List.{List, [], _∷_, _++_}
 use mathlib.Core.Option.{Option}
@@ -24,8 +24,9 @@ blockerWord Blocker.Nobody = bytes "none"
 -- the lines of a verdict
 abbrev pub verdictLines : Verdict → List ℕ
 verdictLines (Verdict.Meets σ) = line (bytes "verdict=") (bytes "meets") ++ line (bytes "span=") (digits σ)
-verdictLines (Verdict.Misses L b) =
-    line (bytes "verdict=") (bytes "misses") ++ (line (bytes "length=") (digits L) ++ line (bytes "blocker=") (blockerWord b))
+verdictLines (Verdict.Misses L b over) =
+    line (bytes "verdict=") (bytes "misses")
+    ++ (line (bytes "length=") (digits L) ++ (line (bytes "blocker=") (blockerWord b) ++ line (bytes "over=") (digits over)))
 verdictLines Verdict.TooFar = line (bytes "verdict=") (bytes "toofar")
 
 -- the lines of a refusal: its number, and what it carries

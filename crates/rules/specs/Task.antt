@@ -1,5 +1,5 @@
 -- Tasks and tables. Document 01, "What the check covers".
-use Prim.Native.Nat.{ℕ, _≤_}
+use Prim.Native.Nat.{ℕ, _+_, _≤_}
 use mathlib.Core.List.{List, [], _∷_, List·Memᴰ}
 use lib.ListN.{getD}
 use Rattle.rules.specs.declared.Task.{Task}
@@ -15,6 +15,11 @@ tasksOf (c ∷ d ∷ t ∷ r ∷ ws) = record { C = c; D = d; T = t; R = r } ∷
 -- the task of a number, from 0; where there is none, a task of noughts
 unfoldable pub taskAt : List Task → ℕ → Task
 taskAt ts k = getD ts k (record { C = 0; D = 0; T = 0; R = 0 })
+
+-- the sum of the tasks' executions
+unfoldable pub executions : List Task → ℕ
+executions [] = 0
+executions (τ ∷ ts) = τ .C + executions ts
 
 -- a task with C, D and T of 1 or more
 pub record Sound (τ : Task) : Type 0 where

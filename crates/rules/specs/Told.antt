@@ -1,6 +1,6 @@
--- Each answer as this paper tells it: a number, and the values that go with it. Document 01, the last paragraph.
+-- Each answer as this paper tells it: a number, and the values that go with it. Document 01, the last paragraph; document 02, 3/14.
 use Prim.Native.Nat.{ℕ}
-use mathlib.Core.List.{List, [], _∷_}
+use mathlib.Core.List.{List, [], _∷_, _++_}
 use lib.ListN.{getD}
 use Rattle.rules.specs.Refusals.{entry, carriedValues}
 use Rattle.rules.specs.declared.Refusal.{Refusal}
@@ -55,10 +55,10 @@ abbrev pub blockerValues : Blocker → List ℕ
 blockerValues (Blocker.Task b) = b ∷ []
 blockerValues Blocker.Nobody = []
 
--- a verdict: 100 meets with the span; 101 misses with the length and the blocker; 102 too far with nothing
+-- a verdict: 100 meets with the span; 101 misses with the length, the blocker and the excess; 102 too far with nothing
 abbrev pub judgedTold : Verdict → Told
 judgedTold (Verdict.Meets σ) = 100 with (σ ∷ [])
-judgedTold (Verdict.Misses L b) = 101 with (L ∷ blockerValues b)
+judgedTold (Verdict.Misses L b over) = 101 with (L ∷ blockerValues b ++ (over ∷ []))
 judgedTold Verdict.TooFar = 102 with []
 
 -- the verdict call

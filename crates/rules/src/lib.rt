@@ -69,10 +69,10 @@ pub enum Blocker {
     Nobody,
 }
 
-// The verdict over all arrivals: with the span; with the length and the blocker; with nothing.
+// The verdict over all arrivals: with the span; with the length, the blocker and the excess; with nothing.
 pub enum Verdict {
     Meets(u32),
-    Misses(u32, Blocker),
+    Misses(u32, Blocker, u32),
     TooFar,
 }
 

@@ -2,7 +2,7 @@
 use mathlib.Core.Path.{_≡_, refl, sym, ap, subst, _∙_}
 use mathlib.Core.Logic.{_↔_}
 use mathlib.Core.Option.{Option, none, some}
-use Prim.Native.Nat.{ℕ, _+_, _*_, _%_, _≤_, _<_}
+use Prim.Native.Nat.{ℕ, _+_, _-_, _*_, _%_, _≤_, _<_}
 use native.Mathlib.Omega.{arith}
 use mathlib.Core.List.{List, [], _∷_}
 use lib.ListN.{length}
@@ -10,7 +10,7 @@ use Rattle.rules.specs.declared.Task.{Task}
 use Rattle.rules.specs.Task.{tasksOf}
 use Rattle.rules.specs.Table.{tableRefusal, FirstOut, Fine}
 use Rattle.rules.specs.Told.{Told, _with_, judgedTold, verdictTold}
-use Rattle.rules.specs.Demand.{Wait, blocker, Blocks, fails, closes, verdict}
+use Rattle.rules.specs.Demand.{Due, Wait, blocker, Blocks, fails, closes, verdict}
 use Rattle.rules.specs.Text.{Lines, took, stop, readSet}
 use Rattle.rules.specs.Answers.{verdictAnswer, firstAnswer}
 use Rattle.rules.specs.declared.Refusal.{Refusal}
@@ -27,7 +27,7 @@ use Rattle.promises.proofs.Kept.{exactly}
 -- THE VERDICT on tasks
 module _ (ts : List Task) where
   -- by the blocker, who is a task exactly if Wait(L) is above 0
-  blocked : (L : ℕ) → Least (λ K. fails K ts) L → (b : Blocker) → blocker L ts ≡ b → VerdictTells ts (judgedTold (Verdict.Misses L b))
+  blocked : (L : ℕ) → Least (λ K. fails K ts) L → (b : Blocker) → blocker L ts ≡ b → VerdictTells ts (judgedTold (Verdict.Misses L b (Due L ts + Wait L ts - L)))
   blocked L l (Blocker.Task b) e = let x = blocker-task L ts b .0 e in VerdictTells.misses l (x .0) (x .1)
   blocked L l Blocker.Nobody e = VerdictTells.misses-alone l (blocker-nobody L ts .0 e)
 
@@ -35,15 +35,15 @@ module _ (ts : List Task) where
   verdict-stands = go (verdict ts) refl
     where
       go : (v : Verdict) → verdict ts ≡ v → VerdictTells ts (judgedTold v)
-      go (Verdict.Misses L b) e = let h = exactly ts (Verdict.Misses L b) .0 e in blocked L (h .0) b (sym (h .1))
+      go (Verdict.Misses L b over) e = let h = exactly ts (Verdict.Misses L b over) .0 e in rw (h .2) (blocked L (h .0) b (sym (h .1)))
       go (Verdict.Meets σ) e = let h = exactly ts (Verdict.Meets σ) .0 e in VerdictTells.meets (h .0) (h .1)
       go Verdict.TooFar e = let h = exactly ts Verdict.TooFar .0 e in VerdictTells.too-far (h .0) (h .1)
 
   verdict-lines : (t : Told) → VerdictTells ts t → judgedTold (verdict ts) ≡ t
   verdict-lines t (VerdictTells.misses {L = L} {b = b} l w x) =
-      ap judgedTold (exactly ts (Verdict.Misses L (Blocker.Task b)) .1 (l, sym (blocker-task L ts b .1 (w, x))))
+      ap judgedTold (exactly ts (Verdict.Misses L (Blocker.Task b) _) .1 (l, sym (blocker-task L ts b .1 (w, x)), refl))
   verdict-lines t (VerdictTells.misses-alone {L = L} l w) =
-      ap judgedTold (exactly ts (Verdict.Misses L Blocker.Nobody) .1 (l, sym (blocker-nobody L ts .1 w)))
+      ap judgedTold (exactly ts (Verdict.Misses L Blocker.Nobody _) .1 (l, sym (blocker-nobody L ts .1 w), refl))
   verdict-lines t (VerdictTells.meets {σ = σ} n l) = ap judgedTold (exactly ts (Verdict.Meets σ) .1 (n, l))
   verdict-lines t (VerdictTells.too-far n m) = ap judgedTold (exactly ts Verdict.TooFar .1 (n, m))
 

@@ -1,5 +1,5 @@
 -- Demand 3: each verdict is given exactly on its condition, and it is kept.
-use mathlib.Core.Path.{_≡_, refl, sym, ap}
+use mathlib.Core.Path.{_≡_, refl, sym, ap, _∙_}
 use mathlib.Core.Logic.{_↔_}
 use Prim.Native.Nat.{ℕ, _≤_, _<_}
 use native.Mathlib.Omega.{arith}
@@ -22,6 +22,7 @@ use Rattle.rules.proofs.Verdicts.{First, misses-when, meets-when, too-far-when,
 use Rattle.rules.proofs.Meets.{meets}
 use Rattle.rules.proofs.Misses.{misses}
 use Rattle.rules.proofs.BelowTheSpan.{least-below}
+use Rattle.rules.proofs.Excess.{excess-is}
 use Rattle.promises.specs.Tables.{Least}
 use Rattle.promises.specs.Demands.{InTime, MakesLate, Condition, Kept, KeptBy, TrueOfEveryPattern}
 use Rattle.promises.specs.Sharper.{Sharper}
@@ -35,9 +36,9 @@ first-of : (p : ℕ → Bool) (x : ℕ) → Least p x → First p x
 first-of p x l = record { low = l .0; high = l .1; passes = l .2; none-before = l .3 }
 
 pub exactly : (ts : List Task) (v : Verdict) → (verdict ts ≡ v) ↔ Condition ts v
-exactly ts (Verdict.Misses L b) = (
-  λ e. let h = misses-when ts L b .0 e in (least-of _ L (h .0), h .1),
-  λ h. misses-when ts L b .1 (first-of _ L (h .0), h .1),
+exactly ts (Verdict.Misses L b over) = (
+  λ e. let h = misses-when ts L b over .0 e in (least-of _ L (h .0), h .1, h .2 ∙ excess-is ts L),
+  λ h. misses-when ts L b over .1 (first-of _ L (h .0), h .1, h .2 ∙ sym (excess-is ts L)),
 )
 exactly ts (Verdict.Meets σ) = (
   λ e. let h = meets-when ts σ .0 e in (h .0, least-of _ σ (h .1)),
@@ -58,7 +59,7 @@ module _ (ts : List Task) (sound : AllSound ts) where
   kept-if : (v : Verdict) → Condition ts v → Kept ts v
   kept-if (Verdict.Meets σ) h =
       (h .1, in-time σ (h .1 .0) (h .1 .2) (λ L low below. let s = h .1 .1 in h .0 L low (omega arith)))
-  kept-if (Verdict.Misses L b) h = makes-late L (h .0 .2)
+  kept-if (Verdict.Misses L b over) h = makes-late L (h .0 .2)
   kept-if Verdict.TooFar h = h
 
   pub kept : Kept ts (verdict ts)

@@ -9,6 +9,7 @@ mod Judged
 mod Shown
 pub mod Dispatched
 pub mod CallForC
+pub mod ByHowMuch
 mod Printing
 mod Seeded
 pub mod SetsDrawn

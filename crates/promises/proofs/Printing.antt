@@ -29,8 +29,8 @@ use Rattle.promises.proofs.Judged.{first-tells}
 -- the lines of a verdict
 judged-prints : (v : Verdict) → Prints (judgedTold v) (verdictLines v)
 judged-prints (Verdict.Meets σ) = Prints.meets
-judged-prints (Verdict.Misses L (Blocker.Task b)) = Prints.misses
-judged-prints (Verdict.Misses L Blocker.Nobody) = Prints.misses-alone
+judged-prints (Verdict.Misses L (Blocker.Task b) over) = Prints.misses
+judged-prints (Verdict.Misses L Blocker.Nobody over) = Prints.misses-alone
 judged-prints Verdict.TooFar = Prints.too-far
 
 -- the lines of the first set

@@ -2,7 +2,7 @@
 use mathlib.Core.Path.{_≡_, refl, sym, ap, subst, _∙_}
 use mathlib.Core.Logic.{_↔_, inl, inr}
 use mathlib.Core.Option.{Option, none, some}
-use Prim.Native.Nat.{ℕ, _*_, _≤_, _<_}
+use Prim.Native.Nat.{ℕ, _+_, _-_, _*_, _≤_, _<_}
 use native.Mathlib.Omega.{arith}
 use native.Mathlib.Decide.{decLt}
 use mathlib.Core.List.{List, [], _∷_, _++_, List·Memᴰ}
@@ -15,7 +15,7 @@ use Rattle.rules.specs.Told.{Told, _with_, scheduleTold, patternTold}
 use Rattle.rules.specs.Dispatch.{Job, Row, late, dispatch, lateJob, rowWords}
 use Rattle.rules.specs.Policy.{Obeys, NamedLate}
 use Rattle.rules.specs.Jobs.{planned, concrete, named}
-use Rattle.rules.specs.Demand.{fails, closes, blocker, verdict}
+use Rattle.rules.specs.Demand.{Due, Wait, fails, closes, blocker, verdict}
 use Rattle.rules.specs.Answers.{timing, scheduleAnswer, scheduleBuffer, isMisses, rowsOf, patternAnswer, patternBuffer}
 use Rattle.rules.specs.Calls.{Dispatches, Schedules, Shows}
 use Rattle.rules.specs.declared.Plan.{Plan}
@@ -142,8 +142,8 @@ module _ (table out : List ℕ) where
 
   -- where a length fails, its rows
   module _ (fine : tableRefusal table ≡ none) (L : ℕ) (least : Least (λ K. fails K (tasksOf table)) L) where
-    misses : verdict (tasksOf table) ≡ Verdict.Misses L (blocker L (tasksOf table))
-    misses = exactly (tasksOf table) (Verdict.Misses L (blocker L (tasksOf table))) .1 (least, refl)
+    misses : verdict (tasksOf table) ≡ Verdict.Misses L (blocker L (tasksOf table)) (Due L (tasksOf table) + Wait L (tasksOf table) - L)
+    misses = exactly (tasksOf table) (Verdict.Misses L (blocker L (tasksOf table)) _) .1 (least, refl, refl)
 
     shown : {a : ScheduleAnswer} {exit : List ℕ} → Dispatches (named L (tasksOf table)) out a exit → Shows table out (rowsOf a) exit
     shown {a} {exit} d = pattern-rows table out {answer = a} {exit = exit} fine (rw misses) (rw misses d)
@@ -173,8 +173,8 @@ module _ (table out : List ℕ) where
   isnt-misses n = go (verdict (tasksOf table)) refl
     where
       go : (v : Verdict) → verdict (tasksOf table) ≡ v → isMisses v ≡ false
-      go (Verdict.Misses L b) e =
-          let h = exactly (tasksOf table) (Verdict.Misses L b) .0 e .0 in
+      go (Verdict.Misses L b over) e =
+          let h = exactly (tasksOf table) (Verdict.Misses L b over) .0 e .0 in
           true-is-not-false (sym (h .2) ∙ n L (h .0) (h .1))
       go (Verdict.Meets σ) e = refl
       go Verdict.TooFar e = refl
@@ -183,8 +183,8 @@ module _ (table out : List ℕ) where
   pattern-stands = go (tableRefusal table) refl
     where
       by-verdict : tableRefusal table ≡ none → (v : Verdict) → verdict (tasksOf table) ≡ v → Patterned
-      by-verdict e (Verdict.Misses L b) f =
-          by-space e L (exactly (tasksOf table) (Verdict.Misses L b) .0 f .0) (decLt (length out) (4 * length (dispatch (named L (tasksOf table)))))
+      by-verdict e (Verdict.Misses L b over) f =
+          by-space e L (exactly (tasksOf table) (Verdict.Misses L b over) .0 f .0) (decLt (length out) (4 * length (dispatch (named L (tasksOf table)))))
       by-verdict e (Verdict.Meets σ) f = none-fails e (ap isMisses f) (exactly (tasksOf table) (Verdict.Meets σ) .0 f .0)
       by-verdict e Verdict.TooFar f = none-fails e (ap isMisses f) (exactly (tasksOf table) Verdict.TooFar .0 f .0)
 

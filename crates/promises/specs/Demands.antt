@@ -5,13 +5,13 @@ use Prim.Native.Nat.{ℕ, suc, _+_, _-_, _*_, _/_, _%_, _≤_, _<_}
 use mathlib.Core.List.{List, [], _∷_, _++_, List·Memᴰ}
 use mathlib.Core.Bool.{true, false}
 use mathlib.Core.Option.{none, some}
-use lib.ListN.{length, take, drop}
+use lib.ListN.{length, take, drop, replicate}
 use Rattle.rules.specs.Choice.{if_then_else_}
 use Rattle.rules.specs.declared.Task.{Task}
-use Rattle.rules.specs.Task.{tasksOf, taskAt, AllSound}
+use Rattle.rules.specs.Task.{tasksOf, taskAt, executions, AllSound}
 use Rattle.rules.specs.Refusals.{numberOf}
 use Rattle.rules.specs.Table.{tableRefusal, FirstOut, Fine}
-use Rattle.rules.specs.Told.{Told, readTold, writeTold, scheduleTold, verdictTold, patternTold, reportTold}
+use Rattle.rules.specs.Told.{Told, numberTold, judgedTold, readTold, writeTold, scheduleTold, verdictTold, patternTold, reportTold}
 use Rattle.rules.specs.Dispatch.{Job, Row, late, same, dispatch, lateJob}
 use Rattle.rules.specs.Policy.{Obeys, NamedLate}
 use Rattle.rules.specs.Jobs.{OnTrain, concrete, named}
@@ -19,11 +19,13 @@ use Rattle.rules.specs.Legal.{Legal}
 use Rattle.rules.specs.Demand.{Due, Wait, fails, closes, blocker, Blocks, verdict}
 use Rattle.rules.specs.Text.{bytes, took, stop, readSet, writeSet}
 use Rattle.rules.specs.Sheet.{tasks, readSheet, writeSheet}
+use Rattle.rules.specs.Stars.{set}
 use Rattle.rules.specs.Answers.{readAnswer, readTable, readRest, writeAnswer, writeBuffer, readSheetAnswer, readSheetTable, writeSheetAnswer, writeSheetBuffer, scheduleAnswer, scheduleBuffer, verdictAnswer, patternAnswer, patternBuffer, firstAnswer, checkNumber}
 use Rattle.rules.specs.Report.{reportAnswer, reportBuffer, output}
 use Rattle.rules.specs.Calls.{Reads, Writes, ReadsSheet, WritesSheet, Schedules, Shows, Reports}
 use Rattle.rules.specs.Generator.{setDrawn, wordsDrawn, stateAfterSet, stateAfterSets, generated, Draws, drawAnswer, drawState, drawTable, DrawsSet}
 use Rattle.rules.specs.declared.Refusal.{Refusal}
+use Rattle.rules.specs.declared.Blocker.{Blocker}
 use Rattle.rules.specs.declared.Verdict.{Verdict}
 use Rattle.rules.specs.declared.ReadAnswer.{ReadAnswer}
 use Rattle.rules.specs.declared.WriteAnswer.{WriteAnswer}
@@ -158,14 +160,14 @@ pub record MakesLate (ts : List Task) (js : List Job) : Type 0 where
 
 -- when each verdict is due, with what it carries
 abbrev pub Condition : List Task → Verdict → Type 0
-Condition ts (Verdict.Misses L b) = Least (λ K. fails K ts) L × (b ≡ blocker L ts)
+Condition ts (Verdict.Misses L b over) = Least (λ K. fails K ts) L × (b ≡ blocker L ts) × (over ≡ Due L ts + Wait L ts - L)
 Condition ts (Verdict.Meets σ) = None (λ K. fails K ts) × Least (λ t. closes t ts) σ
 Condition ts Verdict.TooFar = None (λ K. fails K ts) × None (λ t. closes t ts)
 
 -- what each verdict promises of the patterns
 abbrev pub Kept : List Task → Verdict → Type 0
 Kept ts (Verdict.Meets σ) = Least (λ t. closes t ts) σ × ((js : List Job) → Legal ts js → InTime js)
-Kept ts (Verdict.Misses L b) = MakesLate ts (named L ts)
+Kept ts (Verdict.Misses L b over) = MakesLate ts (named L ts)
 Kept ts Verdict.TooFar = None (λ K. fails K ts) × None (λ t. closes t ts)
 
 -- the verdict call's answer, kept
@@ -198,6 +200,21 @@ pub data CallSays (text : List ℕ) : ℕ → Type 0 where
 pub record CallForC : Type 0 where
   pub says : (text : List ℕ) → CallSays text (checkNumber text)
   pub safe : (text : List ℕ) → checkNumber text ≡ 100 → WasRead text (λ ts. (js : List Job) → Legal ts js → InTime js)
+
+-- BY HOW MUCH. At every "misses" the excess is 1 or more. In a set that was changed its length passes exactly if nothing is due by it any more, or
+-- Due(L) + Wait(L) fell by the excess or more. The excess is below the sum of the executions, and just below it where every deadline is 1; so for a table
+-- it is at most 4,194,239, as 64 tasks of (65535,1,1) have it. The number of the C call is 101 whatever it is
+pub record ByHowMuch : Type 0 where
+  pub one-or-more : (ts : List Task) (L : ℕ) (b : Blocker) (over : ℕ) → verdict ts ≡ Verdict.Misses L b over → 1 ≤ over
+  pub passes-if : (ts : List Task) (L : ℕ) (b : Blocker) (over : ℕ) → verdict ts ≡ Verdict.Misses L b over
+      → (changed : List Task) → (fails L changed ≡ false) ↔ ((Due L changed ≡ 0) ⊎ (Due L changed + Wait L changed + over ≤ Due L ts + Wait L ts))
+  pub below : (ts : List Task) → AllSound ts → (L : ℕ) (b : Blocker) (over : ℕ) → verdict ts ≡ Verdict.Misses L b over → over < executions ts
+  pub just-below : (ts : List Task) → ((τ : Task) → List·Memᴰ τ ts → τ .D ≡ 1) → 2 ≤ executions ts
+      → verdict ts ≡ Verdict.Misses 1 Blocker.Nobody (executions ts - 1)
+  pub of-a-call : (table : List ℕ) (v : Verdict) → verdictAnswer table ≡ VerdictAnswer.Judged v → verdict (tasksOf table) ≡ v
+  pub at-most : (table : List ℕ) (L : ℕ) (b : Blocker) (over : ℕ) → verdictAnswer table ≡ VerdictAnswer.Judged (Verdict.Misses L b over) → over ≤ 4194239
+  pub reached : verdictAnswer (set (replicate 64 (65535, 1, 1))) ≡ VerdictAnswer.Judged (Verdict.Misses 1 Blocker.Nobody 4194239)
+  pub same-number : (L : ℕ) (b : Blocker) (over : ℕ) → numberTold (judgedTold (Verdict.Misses L b over)) ≡ 101
 
 -- THE GENERATOR. What the long kernel does, task k of the set and its last: its C is at most every other D and equal to one of them, and its D is
 -- above all of theirs. So at the length L of its C a tick is due, and all but one may be waited for: L fails, except exactly where just one tick is due

@@ -1,9 +1,9 @@
 -- The paper's tables: of each call what it tells (a number with values) and what it leaves in each lent buffer. One definition a call, one line
--- a case, the numbers as figures, in the paper's order. Document 01, "Refusal numbers", "The verdict over all arrivals" and "Dispatch"; document 02, 1/14 and
--- 2/14.
+-- a case, the numbers as figures, in the paper's order. Document 01, "Refusal numbers", "The verdict over all arrivals" and "Dispatch"; document 02, 1/14,
+-- 2/14 and 3/14.
 use mathlib.Core.Path.{_≡_}
 use mathlib.Core.Logic.{_⊎_}
-use Prim.Native.Nat.{ℕ, suc, _*_, _/_, _%_, _≤_, _<_}
+use Prim.Native.Nat.{ℕ, suc, _+_, _-_, _*_, _/_, _%_, _≤_, _<_}
 use mathlib.Core.List.{List, [], _∷_, _++_, List·Memᴰ}
 use mathlib.Core.Bool.{Bool, true, false}
 use lib.ListN.{length, drop}
@@ -14,7 +14,7 @@ use Rattle.rules.specs.Told.{Told, _with_}
 use Rattle.rules.specs.Dispatch.{Row, late, rowWords}
 use Rattle.rules.specs.Policy.{Obeys, NamedLate}
 use Rattle.rules.specs.Jobs.{concrete, named}
-use Rattle.rules.specs.Demand.{Wait, fails, closes, Blocks}
+use Rattle.rules.specs.Demand.{Due, Wait, fails, closes, Blocks}
 use Rattle.rules.specs.Text.{bytes, digits, line, took, stop, readSet}
 use Rattle.rules.specs.Report.{setLines, setRest}
 use Rattle.rules.specs.DrawnSets.{FromSeed}
@@ -64,11 +64,12 @@ pub data ScheduleTells (table : List ℕ) (z : ℕ) (out : List ℕ) : Told → 
       → NamedLate rows w
       → ScheduleTells table z out (201 with (length rows ∷ w .job .task ∷ w .job .number ∷ w .job .deadline ∷ [])) (rowWords rows ++ drop (4 * length rows) out)
 
--- THE VERDICT on tasks: 101 misses, with the least L that fails and the blocker, or L alone where Wait(L) is 0; 100 meets, with the span;
--- 102 too far, with nothing
+-- THE VERDICT on tasks: 101 misses, with the least L that fails, the blocker, which is left out where Wait(L) is 0, and Due(L) + Wait(L) − L;
+-- 100 meets, with the span; 102 too far, with nothing
 pub data VerdictTells (ts : List Task) : Told → Type 0 where
-  misses : {L b : ℕ} → Least (λ K. fails K ts) L → 0 < Wait L ts → Blocks L ts b → VerdictTells ts (101 with (L ∷ b ∷ []))
-  misses-alone : {L : ℕ} → Least (λ K. fails K ts) L → Wait L ts ≡ 0 → VerdictTells ts (101 with (L ∷ []))
+  misses : {L b : ℕ} → Least (λ K. fails K ts) L → 0 < Wait L ts → Blocks L ts b
+      → VerdictTells ts (101 with (L ∷ b ∷ (Due L ts + Wait L ts - L) ∷ []))
+  misses-alone : {L : ℕ} → Least (λ K. fails K ts) L → Wait L ts ≡ 0 → VerdictTells ts (101 with (L ∷ (Due L ts + Wait L ts - L) ∷ []))
   meets : {σ : ℕ} → None (λ K. fails K ts) → Least (λ t. closes t ts) σ → VerdictTells ts (100 with (σ ∷ []))
   too-far : None (λ K. fails K ts) → None (λ t. closes t ts) → VerdictTells ts (102 with [])
 
@@ -96,10 +97,14 @@ pub data FirstTells (text : List ℕ) : Told → Type 0 where
 -- the lines that the program prints of what is told
 pub data Prints : Told → List ℕ → Type 0 where
   meets : {σ : ℕ} → Prints (100 with (σ ∷ [])) (line (bytes "verdict=") (bytes "meets") ++ line (bytes "span=") (digits σ))
-  misses : {L b : ℕ}
-      → Prints (101 with (L ∷ b ∷ [])) (line (bytes "verdict=") (bytes "misses") ++ (line (bytes "length=") (digits L) ++ line (bytes "blocker=") (digits b)))
-  misses-alone : {L : ℕ}
-      → Prints (101 with (L ∷ [])) (line (bytes "verdict=") (bytes "misses") ++ (line (bytes "length=") (digits L) ++ line (bytes "blocker=") (bytes "none")))
+  misses : {L b over : ℕ}
+      → Prints (101 with (L ∷ b ∷ over ∷ []))
+      (line (bytes "verdict=") (bytes "misses")
+      ++ (line (bytes "length=") (digits L) ++ (line (bytes "blocker=") (digits b) ++ line (bytes "over=") (digits over))))
+  misses-alone : {L over : ℕ}
+      → Prints (101 with (L ∷ over ∷ []))
+      (line (bytes "verdict=") (bytes "misses")
+      ++ (line (bytes "length=") (digits L) ++ (line (bytes "blocker=") (bytes "none") ++ line (bytes "over=") (digits over))))
   too-far : Prints (102 with []) (line (bytes "verdict=") (bytes "toofar"))
   four : {i : ℕ} → Prints (4 with (i ∷ [])) (line (bytes "refused=") (digits 4) ++ line (bytes "word=") (digits i))
   seven : {l : ℕ} → Prints (7 with (l ∷ [])) (line (bytes "refused=") (digits 7) ++ line (bytes "line=") (digits l))

@@ -6,7 +6,7 @@ use native.Mathlib.Omega.{arith}
 use mathlib.Core.List.{List, [], _∷_, _++_, append-nil, List·Memᴰ, List·Memᴰ·head, List·Memᴰ·tail, List·Memᴰ·not-nil}
 use mathlib.Core.Bool.{Bool, true, false, _&&_}
 use lib.Dec.{leb, eqb}
-use lib.ListN.{length, drop, drop-of-length-le}
+use lib.ListN.{length, drop, drop-of-length-le, replicate}
 use borrow.Author.Tests.{leb-true, eqb-true}
 use Rattle.rules.specs.Choice.{least}
 use Rattle.rules.specs.Task.{tasksOf, AllSound}
@@ -197,3 +197,14 @@ table-passes = refl
 -- every star holds
 pub stars-hold : Stars
 stars-hold = rows-right stars table-passes
+
+-- and a set that has the greatest excess of any table, by the same tests
+abbrev greatest : Star
+greatest = record { tasks = replicate 64 (65535, 1, 1); outcome = misses 1 Blocker.Nobody 4194239 }
+
+greatest-passes : passes (greatest ∷ []) ≡ true
+unfolding tests wordLeast inRange outOfRange tableRefusal tasksOf least due Due wait Wait fails excess firstWaiting blocker countWithin
+greatest-passes = refl
+
+pub greatest-excess : verdictAnswer (set (greatest .tasks)) ≡ VerdictAnswer.Judged (Verdict.Misses 1 Blocker.Nobody 4194239)
+greatest-excess = rows-right (greatest ∷ []) greatest-passes greatest (List·Memᴰ·head refl)

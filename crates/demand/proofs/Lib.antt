@@ -1,2 +1,3 @@
 -- Laws that the proofs share.
 mod Bounds
+pub mod Excesses

@@ -3,8 +3,8 @@ ghost use mathlib.Core.Path.{_≡_};
 ghost use Prim.Native.Nat.{_*_, _≤_, _<_, _^_};
 ghost use Rattle.rules.specs.Task.{tasksOf};
 ghost use Rattle.rules.specs.Table.{ValidTable};
-ghost use Rattle.rules.specs.Demand.{due, wait, fails, blocker, ceiling, work};
-ghost use Rattle.demand.specs.Parts.{Bounded, WorkedOut};
+ghost use Rattle.rules.specs.Demand.{due, wait, blocker, ceiling, work};
+ghost use Rattle.demand.specs.Parts.{Bounded, WorkedOut, failsBy};
 use arith::greater;
 use arith::wide;
 use rules::Blocker;
@@ -51,16 +51,16 @@ fn demand_at(table: &[u32], length: u32) -> Demand
     Demand { due, wait }
 }
 
-// Whether a length fails.
-pub fn fails_at(table: &[u32], length: u32) -> bool
+// By how much a length fails: its excess, or 0 where it passes.
+pub fn excess_at(table: &[u32], length: u32) -> u64
     requires { ⌜ ValidTable (now table) ⌝ }
-    ensures { λ r. ⌜ r ≡ fails length (tasksOf (now (table .entry))) ⌝ }
+    ensures { λ r. ⌜ r ≡ failsBy length (tasksOf (now (table .entry))) ⌝ }
 {
     let demand = demand_at(table, length);
     if demand.due < 1 {
-        return false;
+        return 0;
     }
-    wide(length) < demand.due + demand.wait
+    greater(demand.due + demand.wait, wide(length)) - wide(length)
 }
 
 // The blocker of a length. From the last task to the first, so that of equals the lowest stays.

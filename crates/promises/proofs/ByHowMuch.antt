@@ -14,10 +14,10 @@ use Rattle.rules.specs.declared.Blocker.{Blocker}
 use Rattle.rules.specs.declared.Verdict.{Verdict}
 use Rattle.rules.specs.declared.VerdictAnswer.{VerdictAnswer}
 use Rattle.rules.proofs.Booleans.{impossible}
-use Rattle.rules.proofs.Tables.{table-sound, valid-of}
+use Rattle.rules.proofs.Tables.{valid-of}
 use Rattle.rules.proofs.Calls.{verdict-refused, verdict-judged}
 use Rattle.rules.proofs.Verdicts.{First, misses-when}
-use Rattle.rules.proofs.Excess.{excess-some, passes-changed, excess-most, excess-reached, executions-most}
+use Rattle.rules.proofs.Excess.{excess-some, passes-changed, excess-most, excess-reached, excess-of-table}
 use Rattle.rules.proofs.Stars.{greatest-excess}
 use Rattle.promises.specs.Demands.{ByHowMuch}
 
@@ -41,7 +41,7 @@ of-a-call table v e = go (tableRefusal table) refl
 at-most : (table : List ℕ) (L : ℕ) (b : Blocker) (over : ℕ) → verdictAnswer table ≡ VerdictAnswer.Judged (Verdict.Misses L b over) → over ≤ 4194239
 at-most table L b over e =
     let (fine, misses) = of-a-call table _ e in
-    omega (arith, over-is _ L b over misses, excess-most _ (table-sound table fine) L (first _ L b over misses), executions-most table _ (valid-of table fine))
+    rw (over-is _ L b over misses) (excess-of-table table _ (valid-of table fine) L (first _ L b over misses))
 
 pub by-how-much : ByHowMuch
 by-how-much = record {

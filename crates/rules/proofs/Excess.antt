@@ -17,7 +17,7 @@ use Rattle.rules.specs.declared.Blocker.{Blocker}
 use Rattle.rules.specs.declared.Verdict.{Verdict}
 use Rattle.rules.specs.Demand.{due, Due, wait, Wait, fails, excess, blocker, verdict}
 use Rattle.rules.proofs.Booleans.{true-is-not-false, lt-or-ge}
-use Rattle.rules.proofs.Tables.{tasks-are, task-C-most}
+use Rattle.rules.proofs.Tables.{tasks-are, sound-tasks, task-C-most}
 use Rattle.rules.proofs.Blockers.{blocker-nobody}
 use Rattle.rules.proofs.Verdicts.{First, fails-when, fails-not, fails-by, misses-when, div-grows, due-in, due-out, wait-in, wait-out, Due-nought}
 
@@ -132,5 +132,9 @@ unfolding executions tasksFrom
 executions-from w m zero k v h = omega arith
 executions-from w m (suc n) k v h = omega (arith, task-C-most w m k v (omega arith), executions-from w m n (suc k) v (omega arith))
 
-pub executions-most : (w : List ℕ) (m : ℕ) → Valid w m → executions (tasksOf w) ≤ 4194240
+executions-most : (w : List ℕ) (m : ℕ) → Valid w m → executions (tasksOf w) ≤ 4194240
 executions-most w m v = rw (tasks-are w m (v .words)) (omega (arith, executions-from w m m 0 v (omega arith), v .most-tasks))
+
+-- so the excess of a table that is not refused is at most 4,194,239
+pub excess-of-table : (w : List ℕ) (m : ℕ) → Valid w m → (L : ℕ) → First (λ K. fails K (tasksOf w)) L → excess L (tasksOf w) ≤ 4194239
+excess-of-table w m v L f = omega (arith, excess-most (tasksOf w) (sound-tasks w m v) L f, executions-most w m v)

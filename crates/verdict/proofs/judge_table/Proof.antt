@@ -1,8 +1,8 @@
 -- `verdict::judge_table` gives the verdict: the two looks find what the definition searches for, and it is judged by them in the same order.
-use mathlib.Core.Path.{_≡_, sym, ap, _∙_}
+use mathlib.Core.Path.{_≡_, sym, ap, subst, _∙_}
 use borrow.Author.Needs.{needs}
 use Rattle.rules.proofs.Looks.{verdict-misses, verdict-meets, verdict-too-far}
-use Rattle.verdict.specs.Searches.{foundAt}
+use Rattle.verdict.specs.Searches.{FirstFail, foundAt}
 use Rattle.verdict.proofs.judge_table.Statement.{statement}
 use Rattle.verdict.proofs.judge_table.Tie as tie
 
@@ -19,8 +19,8 @@ blocker-at-requires c κs = search needs
 returns : tie.Need-returns
 returns c =
     let at-found = c .before .before in
-    rw (c .blocker-at .ensures)
-    (sym (verdict-misses _ _ (sym (at-found .before .before .first-fail .ensures) ∙ ap foundAt (at-found .first .given .1))))
+    let found = subst (FirstFail _) (at-found .first .given .1) (at-found .before .before .first-fail .ensures) in
+    rw (c .blocker-at .ensures, found .1) (sym (verdict-misses _ _ (found .0)))
 
 enum-told : tie.Need-enum-told
 enum-told c = search needs
@@ -40,7 +40,7 @@ returns-2 c =
     let after-span = c .before .before .before in
     let at-nowhere = after-span .before in
     sym
-    (verdict-meets _ _ (sym (at-nowhere .before .before .first-fail .ensures) ∙ ap foundAt (at-nowhere .enum-told .given .1))
+    (verdict-meets _ _ (subst (FirstFail _) (at-nowhere .enum-told .given .1) (at-nowhere .before .before .first-fail .ensures))
     (sym (after-span .find-span .ensures) ∙ ap foundAt (c .before .last .given .1)))
 
 -- none fails, and there is no span
@@ -49,7 +49,7 @@ returns-3 c =
     let after-span = c .before .before in
     let at-nowhere = after-span .before in
     sym
-    (verdict-too-far _ (sym (at-nowhere .before .before .first-fail .ensures) ∙ ap foundAt (at-nowhere .enum-told .given .1))
+    (verdict-too-far _ (subst (FirstFail _) (at-nowhere .enum-told .given .1) (at-nowhere .before .before .first-fail .ensures))
     (sym (after-span .find-span .ensures) ∙ ap foundAt (c .enum-told2 .given .1)))
 
 pub judge-table-spec : {M : Type 1} → statement M

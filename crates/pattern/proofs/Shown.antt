@@ -26,10 +26,10 @@ use Rattle.pattern.specs.OneLate.{OneLate}
 
 module _ (w out : List ℕ) where
   -- the plan of the verdict's length and blocker gives the jobs that the verdict names
-  pub shown : {answer : ScheduleAnswer} {exit : List ℕ} (L : ℕ) (b : Blocker) → tableRefusal w ≡ none → verdict (tasksOf w) ≡ Verdict.Misses L b
+  pub shown : {answer : ScheduleAnswer} {exit : List ℕ} (L : ℕ) (b : Blocker) (over : ℕ) → tableRefusal w ≡ none → verdict (tasksOf w) ≡ Verdict.Misses L b over
       → Dispatches (planned (Plan.Named L b) (tasksOf w)) out answer exit → Shows w out (rowsOf answer) exit
-  shown {answer} {exit} L b ok m d =
-      let its-blocker = misses-when (tasksOf w) L b .0 m .1 in
+  shown {answer} {exit} L b over ok m d =
+      let its-blocker = misses-when (tasksOf w) L b over .0 m .1 in
       let its-jobs : planned (Plan.Named L b) (tasksOf w) ≡ namedBy (verdict (tasksOf w)) w =
       ap (λ (x : Blocker). planned (Plan.Named L x) (tasksOf w)) its-blocker ∙ ap (λ (v : Verdict). namedBy v w) (sym m)
       in
@@ -37,7 +37,7 @@ module _ (w out : List ℕ) where
 
   -- the promise of "misses" names a row that is late
   late-row : (v : Verdict) → isMisses v ≡ true → Kept (tasksOf w) v → (x : Row) × List·Memᴰ x (dispatch (namedBy v w)) × (late x ≡ true)
-  late-row (Verdict.Misses L b) e k = k .late-row
+  late-row (Verdict.Misses L b over) e k = k .late-row
   late-row (Verdict.Meets σ) e k = true-is-not-false (sym e)
   late-row Verdict.TooFar e k = true-is-not-false (sym e)
 

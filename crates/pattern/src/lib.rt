@@ -40,7 +40,7 @@ pub fn pattern(table: &[u32], rows: &mut [u64]) -> PatternAnswer
     }
     let judged = judge_table(table);
     match judged {
-        Verdict::Misses(length, blocker) => {
+        Verdict::Misses(length, blocker, _) => {
             let timed = dispatch(table, Plan::Named(length, blocker), rows);
             rows_of(timed)
         }

@@ -65,7 +65,7 @@ returns-2 c =
     let at-misses = after-rows .before .before .before in
     let judged = at-misses .before .before in
     let misses = sym (judged .judge-table .ensures) ∙ at-misses .judged .given .1 in
-    let shows = shown _ _ _ _ (fine (judged .before)) misses (after-rows .dispatch .ensures) in
+    let shows = shown _ _ _ _ _ (fine (judged .before)) misses (after-rows .dispatch .ensures) in
     rw (c .rows-of .ensures) (shows, late-shown _ _ shows)
 
 -- 8: it meets

@@ -32,13 +32,14 @@ fn put_meets(out: &mut [u8], at: usize, span: u32) -> usize
 }
 
 // The lines of a "misses" are put at a place.
-fn put_misses(out: &mut [u8], at: usize, least: u32, blocker: Blocker) -> usize
-    requires { ⌜ at + length (verdictLines (Verdict.Misses least blocker)) ≤ length (now out) ⌝ }
-    ensures { λ r. ⌜ Puts (now (out .entry)) at (verdictLines (Verdict.Misses least blocker)) r (now (out .exit)) ⌝ }
+fn put_misses(out: &mut [u8], at: usize, least: u32, blocker: Blocker, over: u32) -> usize
+    requires { ⌜ at + length (verdictLines (Verdict.Misses least blocker over)) ≤ length (now out) ⌝ }
+    ensures { λ r. ⌜ Puts (now (out .entry)) at (verdictLines (Verdict.Misses least blocker over)) r (now (out .exit)) ⌝ }
 {
     let after_word = print::put_word_line(out, at, b"verdict=", b"misses");
     let after_length = print::put_line(out, after_word, b"length=", least);
-    put_blocker(out, after_length, blocker)
+    let after_blocker = put_blocker(out, after_length, blocker);
+    print::put_line(out, after_blocker, b"over=", over)
 }
 
 // A verdict's lines are put at a place.
@@ -48,7 +49,7 @@ fn put_verdict(out: &mut [u8], at: usize, verdict: Verdict) -> usize
 {
     match verdict {
         Verdict::Meets(span) => put_meets(out, at, span),
-        Verdict::Misses(least, blocker) => put_misses(out, at, least, blocker),
+        Verdict::Misses(least, blocker, over) => put_misses(out, at, least, blocker, over),
         Verdict::TooFar => print::put_word_line(out, at, b"verdict=", b"toofar"),
     }
 }

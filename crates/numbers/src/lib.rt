@@ -43,7 +43,7 @@ pub fn verdict_number(v: Verdict) -> u32
 {
     match v {
         Verdict::Meets(_) => 100,
-        Verdict::Misses(_, _) => 101,
+        Verdict::Misses(_, _, _) => 101,
         Verdict::TooFar => 102,
     }
 }

@@ -33,10 +33,10 @@ pub record SoFar (input old out : List ℕ) (number left at : ℕ) : Type 0 wher
   pub same : length out ≡ length old
   -- with those of the sets that are left they make up the output
   pub due : lines ++ setsLines (length input + 2 - number) number (drop (length input - left) input) ≡ output input
-  -- and each set took 24 bytes at least, and got 67 at most
+  -- and each set took 24 bytes at least, and got 83 at most
   pub first : 1 ≤ number
   pub taken : 24 * number + left ≤ length input + 24
-  pub printed : at + 67 ≤ 67 * number
+  pub printed : at + 83 ≤ 83 * number
 
 pub at-first : (input old : List ℕ) → length input ≤ inputMost → SoFar input old old 1 (length input) 0
 at-first input old h =
@@ -62,7 +62,7 @@ module _ (input old out : List ℕ) (number left at : ℕ) (so-far : SoFar input
   text-length = omega (arith, length-drop (length input - left) input, so-far .first, so-far .taken)
 
   -- there is room for one set's lines more
-  pub fits : at + 67 ≤ length old
+  pub fits : at + 83 ≤ length old
   fits = omega (arith, so-far .first, so-far .taken, so-far .printed)
 
   -- so the report is not refused
@@ -85,7 +85,7 @@ module _ (input old out : List ℕ) (number left at : ℕ) (so-far : SoFar input
       rest-is : rest ≡ length (setRest text)
       rest-is = let f = sym e ∙ answers in cc
 
-      pub size-most : size ≤ 67
+      pub size-most : size ≤ 83
       size-most = omega (arith, size-is, lines-most number text)
 
       pub rest-less : 0 < rest → rest < left

@@ -5,9 +5,9 @@ use mathlib.Core.List.{List, _++_}
 use lib.ListN.{length, drop}
 use Rattle.rules.specs.Report.{output}
 
--- the most bytes: 1,366 sets' lines of 67 bytes
+-- the most bytes: 1,366 sets' lines of 83 bytes
 abbrev pub outputMost : ℕ
-outputMost = 91522
+outputMost = 113378
 
 -- the output of an input stands at the start of the lent bytes, which stay the same beyond it; the answer is its length
 pub record Outputs (input out : List ℕ) (size : ℕ) (exit : List ℕ) : Type 0 where

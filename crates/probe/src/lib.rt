@@ -78,7 +78,7 @@ pub extern "C" fn probe_schedule(table: &[u32], z: u32, rows: &mut [u64], out: &
     tell::tell(out, told::say_schedule(schedule::schedule(table, z, rows)))
 }
 
-// The verdict: 100 with the span; 101 with the length and the blocker, 2^64 - 1 for none; 102.
+// The verdict: 100 with the span; 101 with the length, the blocker (2^64 - 1 for none) and the excess; 102.
 #[no_mangle]
 pub extern "C" fn probe_verdict(table: &[u32], out: &mut [u64]) -> u32
     ensures { λ n. ⌜ Probes (verdictProbed (verdictAnswer (now (table .entry)))) (now (out .entry)) n (now (out .exit)) ⌝ }

@@ -14,7 +14,7 @@ use rules::VerdictAnswer;
 use table::TABLE_MOST;
 
 // The most bytes that the lines for a set can take.
-pub const LINES_MOST: usize = 67;
+pub const LINES_MOST: usize = 83;
 
 // What is found of the first set: the verdict or the refusal, and how many bytes are left to read.
 struct First {

@@ -34,6 +34,10 @@ pub fn tell(out: &mut [u64], saying: Saying) -> u32
             put(out, &[a, b]);
             n
         }
+        Saying::Three(n, a, b, c) => {
+            put(out, &[a, b, c]);
+            n
+        }
         Saying::Four(n, a, b, c, d) => {
             put(out, &[a, b, c, d]);
             n

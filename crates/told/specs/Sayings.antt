@@ -8,13 +8,14 @@ use Rattle.rules.specs.declared.Verdict.{Verdict}
 use Rattle.rules.specs.declared.ReadAnswer.{ReadAnswer}
 use Rattle.rules.specs.declared.VerdictAnswer.{VerdictAnswer}
 use Rattle.told.specs.declared.Saying.{Saying}
-use Rattle.told.specs.declared.Saying.the-variants.{Bare, One, Two, Four}
+use Rattle.told.specs.declared.Saying.the-variants.{Bare, One, Two, Three, Four}
 
--- a number with no, one, two or four values
+-- a number with no to four values
 abbrev pub said : Saying → Told
 said (Bare n) = n with []
 said (One n a) = n with (a ∷ [])
 said (Two n a b) = n with (a ∷ b ∷ [])
+said (Three n a b c) = n with (a ∷ b ∷ c ∷ [])
 said (Four n a b c d) = n with (a ∷ b ∷ c ∷ d ∷ [])
 
 -- a value after those that are told
@@ -27,15 +28,19 @@ abbrev pub readProbed : ReadAnswer → ℕ → Told
 readProbed (ReadAnswer.Set n) used = readTold (ReadAnswer.Set n) also used
 readProbed (ReadAnswer.Refused r) used = readTold (ReadAnswer.Refused r)
 
--- a "misses": 2^64 - 1 for the blocker where there is none
-abbrev pub missesProbed : ℕ → Blocker → Told
-missesProbed L (Blocker.Task b) = judgedTold (Verdict.Misses L (Blocker.Task b))
-missesProbed L Blocker.Nobody = judgedTold (Verdict.Misses L Blocker.Nobody) also 18446744073709551615
+-- the value for a blocker: its task's number, 2^64 - 1 where there is none
+abbrev pub blockerProbed : Blocker → ℕ
+blockerProbed (Blocker.Task b) = b
+blockerProbed Blocker.Nobody = 18446744073709551615
+
+-- a "misses": told as if by the task of that value
+abbrev pub missesProbed : ℕ → Blocker → ℕ → Told
+missesProbed L b over = judgedTold (Verdict.Misses L (Blocker.Task (blockerProbed b)) over)
 
 -- the verdict call
 abbrev pub verdictProbed : VerdictAnswer → Told
 verdictProbed (VerdictAnswer.Judged (Verdict.Meets σ)) = judgedTold (Verdict.Meets σ)
-verdictProbed (VerdictAnswer.Judged (Verdict.Misses L b)) = missesProbed L b
+verdictProbed (VerdictAnswer.Judged (Verdict.Misses L b over)) = missesProbed L b over
 verdictProbed (VerdictAnswer.Judged Verdict.TooFar) = judgedTold Verdict.TooFar
 verdictProbed (VerdictAnswer.Refused r) = verdictTold (VerdictAnswer.Refused r)
 

@@ -1,7 +1,7 @@
 // Each answer told as a number with values, in code; rules/specs/Told.antt has the same as definitions. For the probe.
 ghost use mathlib.Core.Path.{_≡_};
 ghost use Rattle.rules.specs.Told.{refusalTold, readTold, writeTold, scheduleTold, patternTold};
-ghost use Rattle.told.specs.Sayings.{said, readProbed, missesProbed, verdictProbed, drawProbed, setProbed};
+ghost use Rattle.told.specs.Sayings.{said, readProbed, blockerProbed, missesProbed, verdictProbed, drawProbed, setProbed};
 use rules::Blocker;
 use rules::Carried;
 use rules::PatternAnswer;
@@ -12,11 +12,12 @@ use rules::Verdict;
 use rules::VerdictAnswer;
 use rules::WriteAnswer;
 
-// A number with no, one, two or four values.
+// A number with no to four values.
 pub enum Saying {
     Bare(u32),
     One(u32, u64),
     Two(u32, u64, u64),
+    Three(u32, u64, u64, u64),
     Four(u32, u64, u64, u64, u64),
 }
 
@@ -83,14 +84,22 @@ pub fn say_schedule(answer: ScheduleAnswer) -> Saying
     }
 }
 
-// A "misses".
-fn say_misses(length: u32, blocker: Blocker) -> Saying
-    ensures { λ s. ⌜ said s ≡ missesProbed length blocker ⌝ }
+// A blocker's value.
+fn blocker_value(blocker: Blocker) -> u64
+    ensures { λ v. ⌜ v ≡ blockerProbed blocker ⌝ }
 {
     match blocker {
-        Blocker::Task(b) => Saying::Two(101, length as u64, b as u64),
-        Blocker::Nobody => Saying::Two(101, length as u64, NOBODY),
+        Blocker::Task(b) => b as u64,
+        Blocker::Nobody => NOBODY,
     }
+}
+
+// A "misses".
+fn say_misses(length: u32, blocker: Blocker, over: u32) -> Saying
+    ensures { λ s. ⌜ said s ≡ missesProbed length blocker over ⌝ }
+{
+    let value = blocker_value(blocker);
+    Saying::Three(101, length as u64, value, over as u64)
 }
 
 // A verdict.
@@ -99,7 +108,7 @@ fn say_judged(verdict: Verdict) -> Saying
 {
     match verdict {
         Verdict::Meets(span) => Saying::One(100, span as u64),
-        Verdict::Misses(length, blocker) => say_misses(length, blocker),
+        Verdict::Misses(length, blocker, over) => say_misses(length, blocker, over),
         Verdict::TooFar => Saying::Bare(102),
     }
 }

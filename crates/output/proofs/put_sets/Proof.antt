@@ -16,13 +16,13 @@ abbrev μ-loop : tie.MeasureT-loop
 μ-loop input out₀ number₀ left₀ at₀ out number left at = left
 
 -- there is room for one set's lines more
-room : (at-loop : tie.At-loop Inv-loop μ-loop) → at-loop .loop .at + 67 ≤ length (at-loop .before .before .before .args .out .now)
+room : (at-loop : tie.At-loop Inv-loop μ-loop) → at-loop .loop .at + 83 ≤ length (at-loop .before .before .before .args .out .now)
 room at-loop =
     let at-start = at-loop .before .before .before in
     fits _ _ _ _ _ _ (at-loop .loop .inv) (at-start .pre .0) (at-start .pre .1)
 
 -- and that many the set has at most
-few : (c : tie.After-known-told Inv-loop μ-loop) → c .before .answer .given .0 .0 ≤ 67
+few : (c : tie.After-known-told Inv-loop μ-loop) → c .before .answer .given .0 .0 ≤ 83
 few c =
     let at-set = c .before in
     let after-report = at-set .before .before .before .before in

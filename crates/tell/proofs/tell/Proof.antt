@@ -34,6 +34,15 @@ slice-aggregate-put-3 c = search needs
 put-requires-3 : tie.Need-put-requires-3
 put-requires-3 c κs = search needs
 
+enum-known-saying-5 : tie.Need-enum-known-saying-5
+enum-known-saying-5 c = search needs
+
+slice-aggregate-put-4 : tie.Need-slice-aggregate-put-4
+slice-aggregate-put-4 c = search needs
+
+put-requires-4 : tie.Need-put-requires-4
+put-requires-4 c κs = search needs
+
 returns : tie.Need-returns
 returns c = search needs
 
@@ -61,6 +70,14 @@ returns-4 c =
     let after-put = c .before .before in
     rw (after-put .before .before .before .before .saying4 .given .1) (record { says = refl; leaves = after-put .put3 .ensures })
 
+same-length-4 : tie.Need-same-length-4
+same-length-4 c = search needs
+
+returns-5 : tie.Need-returns-5
+returns-5 c =
+    let after-put = c .before .before in
+    rw (after-put .before .before .before .before .saying5 .given .1) (record { says = refl; leaves = after-put .put4 .ensures })
+
 pub tell-spec : {M : Type 1} → statement M
 tell-spec =
     tie.close
@@ -75,10 +92,15 @@ tell-spec =
     enum-known-saying-4
     slice-aggregate-put-3
     put-requires-3
+    enum-known-saying-5
+    slice-aggregate-put-4
+    put-requires-4
     returns
     same-length
     returns-2
     same-length-2
     returns-3
     same-length-3
-    returns-4)
+    returns-4
+    same-length-4
+    returns-5)

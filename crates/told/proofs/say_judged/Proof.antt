@@ -6,8 +6,8 @@ use Rattle.told.proofs.say_judged.Tie as tie
 enum-known-verdict : tie.Need-enum-known-verdict
 enum-known-verdict c = search needs
 
-cast-t6 : tie.Need-cast-t6
-cast-t6 c = search needs
+cast-t7 : tie.Need-cast-t7
+cast-t7 c = search needs
 
 enum-known-verdict-2 : tie.Need-enum-known-verdict-2
 enum-known-verdict-2 c = search needs
@@ -32,7 +32,7 @@ say-judged-spec =
     tie.close
     (tie.spec
     enum-known-verdict
-    cast-t6
+    cast-t7
     enum-known-verdict-2
     say-misses-requires
     enum-told

@@ -12,7 +12,9 @@
 extern "C" {
 #endif
 
-/* Verdicts over all arrivals. */
+/* Verdicts over all arrivals. A number is the whole answer: 101 is the same for a set that is over by
+ * one tick and for one that is over by a thousand. The program says more: the span, or the length that
+ * fails, the blocker and by how much. */
 #define TILECHECK_MEETS 100u   /* every job of every legal pattern meets its deadline */
 #define TILECHECK_MISSES 101u  /* some legal pattern has a late job */
 #define TILECHECK_TOO_FAR 102u /* nothing fails up to the horizon, but that isn't enough to tell */

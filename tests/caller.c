@@ -82,6 +82,15 @@ static void check(const char *name, const char *text, uint32_t wanted)
 #define WITH_NUL "tasks=1\nc=1\0\nd=1\nt=1\nr=0\n"
 #define WHOLE_RUN MEETS_SET MISSES_SET
 
+/* Writes a set of so many equal tasks and gives its length. */
+static size_t many_tasks(char *text, int count, const char *lines)
+{
+    size_t length = (size_t)sprintf(text, "tasks=%d\n", count);
+    for (int task = 0; task < count; task++)
+        length += (size_t)sprintf(text + length, "%s", lines);
+    return length;
+}
+
 /* The paper's own numbers, whatever the header calls them. */
 static void check_numbers(void)
 {
@@ -102,6 +111,23 @@ static void check_verdicts(void)
     check("largest words", "tasks=1\nc=65535\nd=65535\nt=65535\nr=65535\n", TILECHECK_MEETS);
     check("damage after the set", MISSES_SET "tasks=0\n", TILECHECK_MISSES);
     check("no line end after the set", TOO_FAR_SET "x", TILECHECK_TOO_FAR);
+}
+
+/* A set that misses at length 1 gets one number, however far it is over: by the one task's work, or
+ * by the wait for the second one, or by all that 64 tasks can have. */
+static void check_excesses(void)
+{
+    static const unsigned overs[] = {1, 2, 3, 98, 99, 100, 101, 102, 255, 256, 32767, 65534};
+    char text[2000];
+    for (size_t i = 0; i < sizeof overs / sizeof overs[0]; i++) {
+        sprintf(text, "tasks=1\nc=%u\nd=1\nt=1\nr=0\n", overs[i] + 1);
+        check("over by the work", text, 101);
+        sprintf(text, "tasks=2\nc=1\nd=1\nt=65535\nr=0\nc=%u\nd=65535\nt=65535\nr=0\n",
+                overs[i] + 1);
+        check("over by the wait", text, 101);
+    }
+    many_tasks(text, 64, "c=65535\nd=1\nt=1\nr=0\n");
+    check("over by 4194239", text, 101);
 }
 
 static void check_refusals(void)
@@ -137,22 +163,14 @@ static void check_cuts(void)
     }
 }
 
-/* Writes a set of so many equal tasks and gives its length. */
-static size_t many_tasks(char *text, int count)
-{
-    size_t length = (size_t)sprintf(text, "tasks=%d\n", count);
-    for (int task = 0; task < count; task++)
-        length += (size_t)sprintf(text + length, "c=1\nd=64\nt=64\nr=65535\n");
-    return length;
-}
-
 /* The most tasks and one more; then more text after the set than the program would take. */
 static void check_long(void)
 {
+    static const char lines[] = "c=1\nd=64\nt=64\nr=65535\n";
     static char text[100000];
-    size_t length = many_tasks(text, 65);
+    size_t length = many_tasks(text, 65, lines);
     check_bytes("65 tasks", text, length, TILECHECK_BAD_LINE);
-    length = many_tasks(text, 64);
+    length = many_tasks(text, 64, lines);
     check_bytes("64 tasks", text, length, TILECHECK_MEETS);
     check_bytes("64 tasks, cut", text, length - 1, TILECHECK_BAD_LINE);
     memset(text + length, 'x', sizeof text - length);
@@ -164,6 +182,7 @@ int main(void)
     map_pages();
     check_numbers();
     check_verdicts();
+    check_excesses();
     check_refusals();
     check_null();
     check_cuts();

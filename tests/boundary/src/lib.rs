@@ -71,6 +71,7 @@ pub fn schedule(table: &[u32], z: u32, rows: &mut [u64], out: &mut [u64]) -> u32
     }
 }
 
+/// A "misses" carries three words: the length, the blocker or NO_BLOCKER, the excess.
 pub fn verdict(table: &[u32], out: &mut [u64]) -> u32 {
     unsafe { probe_verdict(table.as_ptr(), table.len(), out.as_mut_ptr(), out.len()) }
 }

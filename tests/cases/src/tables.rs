@@ -46,6 +46,35 @@ fn dense(random: &mut Random) -> Vec<u32> {
     repeat(random, count, |random| task(random, (1, longest), (1, most)))
 }
 
+/// Small numbers with long runs among them: most of these sets miss.
+pub fn crowded(random: &mut Random) -> Vec<u32> {
+    let count = random.between(1, 6);
+    let most = random.pick(&[4, 9, 30, 200]);
+    let longest = random.between(1, 1 + most / 2);
+    repeat(random, count, |random| task(random, (1, longest), (1, most)))
+}
+
+/// The set with one to three words to the better, or a task less. R stays.
+pub fn eased(random: &mut Random, table: &[u32]) -> Vec<u32> {
+    let mut table = table.to_vec();
+    for _ in 0..random.between(1, 3) {
+        let task = 4 * random.below(table.len() / 4);
+        match random.below(8) {
+            0 if table.len() > 4 => drop(table.drain(task..task + 4)),
+            1 | 2 => table[task + 1] = raised(random, table[task + 1]),
+            3 => table[task + 2] = raised(random, table[task + 2]),
+            _ => table[task] = random.between(1, table[task]),
+        }
+    }
+    table
+}
+
+/// Mostly by little.
+fn raised(random: &mut Random, word: u32) -> u32 {
+    let most = random.pick(&[word + 2, word + 9, LARGEST]);
+    random.between(word, most.min(LARGEST))
+}
+
 /// Short runs and long periods.
 fn light(random: &mut Random, most_tasks: u32) -> Vec<u32> {
     let count = random.between(1, most_tasks);

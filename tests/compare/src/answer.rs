@@ -52,8 +52,8 @@ pub fn schedule(table: &[u32], z: u32, rows: &mut [u64]) -> Answer {
 pub fn verdict(table: &[u32]) -> Answer {
     match oracle::verdict(table) {
         Ok(Verdict::Meets { span }) => answer(100, &[span]),
-        Ok(Verdict::Misses { length, blocker }) => {
-            answer(101, &[length, blocker.map_or(NO_BLOCKER, |task| task as u64)])
+        Ok(Verdict::Misses { length, blocker, over }) => {
+            answer(101, &[length, blocker.map_or(NO_BLOCKER, |task| task as u64), over])
         }
         Ok(Verdict::TooFar) => answer(102, &[]),
         Err(refusal) => refused(refusal),

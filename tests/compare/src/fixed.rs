@@ -63,7 +63,15 @@ fn sixty_four_tasks(checker: &mut Checker) -> Outcome {
     on_table(checker, &task.repeat(64))?;
     on_table(checker, &other([2, 64, 64, 0]))?;
     on_table(checker, &other([2, 65, 64, 0]))?;
-    on_table(checker, &[1, 65_535, 63, 0].repeat(64))
+    on_table(checker, &[1, 65_535, 63, 0].repeat(64))?;
+    greatest_excesses(checker)
+}
+
+/// All work at once, then all of it but for one tick; and the longest blocker.
+fn greatest_excesses(checker: &mut Checker) -> Outcome {
+    on_table(checker, &[65_535, 1, 1, 0].repeat(64))?;
+    on_table(checker, &[&[65_535, 1, 1, 0].repeat(63)[..], &[65_534, 1, 1, 0]].concat())?;
+    on_table(checker, &[1, 1, 65_535, 0, 65_535, 65_535, 65_535, 0])
 }
 
 /// Every call with an `out` of 0 to 6 words, on an input that is otherwise served.

@@ -6,6 +6,7 @@
 mod answer;
 mod checks;
 mod difference;
+mod excess;
 mod fixed;
 mod generator;
 mod lent;
@@ -61,6 +62,7 @@ fn rounds_asked_for() -> Option<usize> {
 fn compare(checker: &mut Checker, rounds: usize) -> Outcome {
     fixed::run(checker)?;
     rounds::run(checker, rounds)?;
+    excess::run(checker, rounds)?;
     generator::run(checker, rounds)?;
     sheets::run(checker, rounds)
 }

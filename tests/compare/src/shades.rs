@@ -6,6 +6,9 @@ use boundary::NO_BLOCKER;
 use oracle::generator::{words_needed, MOST_DRAWN};
 use oracle::{Verdict, HORIZON};
 
+/// Of 64 tasks with all that a task can have, due in one tick.
+const GREATEST_EXCESS: u64 = 64 * 65_535 - 1;
+
 /// Names and whether they apply.
 pub type Shades = Vec<(&'static str, bool)>;
 
@@ -47,14 +50,22 @@ pub fn of_verdict(table: &[u32], wanted: &Done<u64>) -> Shades {
     match wanted.number {
         100 => vec![("100 at the horizon", out[0] == HORIZON), ("100 with 64 tasks", full)],
         102 => vec![("102 with 64 tasks", full)],
-        101 => vec![
-            ("101 with 64 tasks", full),
-            ("101 with a blocker", out[1] != NO_BLOCKER),
-            ("101 with no blocker", out[1] == NO_BLOCKER),
-            ("101 at the horizon", out[0] == HORIZON),
-        ],
+        101 => {
+            let more = [("101 with 64 tasks", full), ("101 at the horizon", out[0] == HORIZON)];
+            [&more[..], &of_excess(out[1] != NO_BLOCKER, out[2])].concat()
+        }
         _ => vec![],
     }
+}
+
+fn of_excess(blocked: bool, over: u64) -> Shades {
+    vec![
+        ("101 with a blocker, over by 1", blocked && over == 1),
+        ("101 with a blocker, over by more", blocked && over > 1),
+        ("101 with no blocker, over by 1", !blocked && over == 1),
+        ("101 with no blocker, over by more", !blocked && over > 1),
+        ("101 over by the most there can be", over == GREATEST_EXCESS),
+    ]
 }
 
 pub fn of_pattern(table: &[u32], wanted: &Done<u64>) -> Shades {

@@ -7,7 +7,7 @@ use std::fmt;
 
 /// For each call every answer that it can give, then the shades that have to be met as well.
 #[rustfmt::skip]
-const KNOWN: [(&str, &[&str], &[&str]); 15] = [
+const KNOWN: [(&str, &[&str], &[&str]); 18] = [
     ("probe_read", &["0", "6", "7", "999"],
      &["0 with a rest", "0 with no rest", "6 by one word", "7 on line 1", "7 on a later line",
        "7 with too short a table"]),
@@ -17,7 +17,9 @@ const KNOWN: [(&str, &[&str], &[&str]); 15] = [
      &["no row", "idle before a start", "finish above 32 bits", "201 and not the first late job",
        "201 and the deadline shared", "5 with too short a buffer", "6 by one word"]),
     ("probe_verdict", &["100", "101", "102", "1", "2", "3", "4", "999"],
-     &["100 at the horizon", "101 at the horizon", "101 with a blocker", "101 with no blocker",
+     &["100 at the horizon", "101 at the horizon", "101 with a blocker, over by 1",
+       "101 with a blocker, over by more", "101 with no blocker, over by 1",
+       "101 with no blocker, over by more", "101 over by the most there can be",
        "100 with 64 tasks", "101 with 64 tasks", "102 with 64 tasks"]),
     ("probe_pattern", &["0", "1", "2", "3", "4", "6", "8", "999"],
      &["0 with a blocker", "0 with no blocker", "8 with too short a buffer", "6 by one word"]),
@@ -46,6 +48,12 @@ const KNOWN: [(&str, &[&str], &[&str]); 15] = [
     ("sheet, then text", &["the table's text"], &[]),
     ("write, then read", &["the numbers came back"], &[]),
     ("read, then write", &["the bytes came back"], &[]),
+    ("judge, then add up", &["above 0 and below the sum of C"], &[]),
+    ("judge, then pattern", &["the last row ends so much too late"],
+     &["with a blocker", "with no blocker"]),
+    ("judge, then ease", &["the length again, with the rest", "not the length again"],
+     &["over by as much", "over by less", "a greater length", "no miss", "fell by the excess",
+       "fell by one less", "nothing due, fell by less"]),
 ];
 
 #[derive(Default)]

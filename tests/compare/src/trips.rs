@@ -84,7 +84,7 @@ pub fn generate_then_judge(checker: &mut Checker, state: u32, number: u32) -> Ou
     write_then_read(checker, set)
 }
 
-fn end(
+pub fn end(
     checker: &mut Checker,
     trip: &'static str,
     good: &str,

@@ -23,6 +23,11 @@ pub fn fails(tasks: &[Task], length: u64) -> bool {
     due >= 1 && due + wait(tasks, length) > length
 }
 
+/// How far Due(L) + Wait(L) is above L, for an L that fails.
+pub fn excess(tasks: &[Task], length: u64) -> u64 {
+    due(tasks, length) + wait(tasks, length) - length
+}
+
 /// The sum over all tasks of C × (t / T rounded up).
 pub fn load(tasks: &[Task], t: u64) -> u64 {
     tasks.iter().map(|task| task.c * t.div_ceil(task.t)).sum()

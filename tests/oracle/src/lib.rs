@@ -1,5 +1,5 @@
 //! An independent implementation of document 01, "Scope of work and exact rules": "the paper",
-//! and of the generator and the sheets of document 02, "Tickets in the order received".
+//! and of the generator, the sheets and the excess of document 02, "Tickets in the order received".
 //!
 //! It is written from these two alone and shares nothing with the proved code.
 //! Every call lends its buffers as the proved calls do: what is not written stays the same,
@@ -32,6 +32,8 @@ pub use table::{Task, HORIZON, LARGEST, MOST_TASKS};
 pub use verdict::{verdict, Verdict};
 pub use writer::write;
 
+#[cfg(test)]
+mod excess_tests;
 #[cfg(test)]
 mod sheet_tests;
 #[cfg(test)]

@@ -6,7 +6,7 @@ use crate::verdict::Verdict;
 pub fn numbers() -> Vec<(&'static str, u32)> {
     vec![
         ("MEETS", Verdict::Meets { span: 1 }.number()),
-        ("MISSES", Verdict::Misses { length: 1, blocker: None }.number()),
+        ("MISSES", Verdict::Misses { length: 1, blocker: None, over: 1 }.number()),
         ("TOO_FAR", Verdict::TooFar.number()),
         ("NO_WORD", Refusal::NoWord.number()),
         ("NOT_FOURS", Refusal::NotFours.number()),

@@ -28,7 +28,7 @@ pub fn words_needed(words: &[u32]) -> Result<usize, Refusal> {
 fn streams(words: &[u32]) -> Result<Vec<Stream>, Refusal> {
     let tasks = table::tasks(words)?;
     match judge(&tasks) {
-        Verdict::Misses { length, blocker } => Ok(named(&tasks, length, blocker)),
+        Verdict::Misses { length, blocker, .. } => Ok(named(&tasks, length, blocker)),
         _ => Err(Refusal::NotMisses),
     }
 }

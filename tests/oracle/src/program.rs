@@ -39,9 +39,9 @@ pub fn judge_first(text: &[u8]) -> (Result<Verdict, Refusal>, &[u8]) {
 fn lines(answer: Result<Verdict, Refusal>) -> String {
     match answer {
         Ok(Verdict::Meets { span }) => format!("verdict=meets\nspan={span}\n"),
-        Ok(Verdict::Misses { length, blocker }) => {
+        Ok(Verdict::Misses { length, blocker, over }) => {
             let blocker = blocker.map_or("none".to_string(), |task| task.to_string());
-            format!("verdict=misses\nlength={length}\nblocker={blocker}\n")
+            format!("verdict=misses\nlength={length}\nblocker={blocker}\nover={over}\n")
         }
         Ok(Verdict::TooFar) => "verdict=toofar\n".to_string(),
         Err(Refusal::OutOfRange { word }) => format!("refused=4\nword={word}\n"),

@@ -14,7 +14,7 @@ use crate::*;
 const FILL: u64 = 0x5a5a_5a5a_5a5a_5a5a;
 
 /// A table of tasks (C, D, T) with R 0.
-fn set(tasks: &[(u32, u32, u32)]) -> Vec<u32> {
+pub fn set(tasks: &[(u32, u32, u32)]) -> Vec<u32> {
     tasks.iter().flat_map(|&(c, d, t)| [c, d, t, 0]).collect()
 }
 
@@ -22,8 +22,8 @@ fn meets(tasks: &[(u32, u32, u32)], span: u64) {
     assert_eq!(verdict(&set(tasks)), Ok(Verdict::Meets { span }), "{tasks:?}");
 }
 
-fn misses(tasks: &[(u32, u32, u32)], length: u64, blocker: Option<usize>) {
-    assert_eq!(verdict(&set(tasks)), Ok(Verdict::Misses { length, blocker }), "{tasks:?}");
+pub fn misses(tasks: &[(u32, u32, u32)], length: u64, blocker: Option<usize>, over: u64) {
+    assert_eq!(verdict(&set(tasks)), Ok(Verdict::Misses { length, blocker, over }), "{tasks:?}");
 }
 
 fn too_far(tasks: &[(u32, u32, u32)]) {
@@ -34,14 +34,14 @@ fn too_far(tasks: &[(u32, u32, u32)]) {
 fn sets_with_their_outcome() {
     meets(&[(1, 1, 1)], 1);
     meets(&[(2, 4, 4), (3, 6, 6)], 12);
-    misses(&[(2, 4, 4), (4, 8, 8)], 4, Some(1));
+    misses(&[(2, 4, 4), (4, 8, 8)], 4, Some(1), 1);
     meets(&[(3, 4, 4), (2, 8, 8)], 8);
-    misses(&[(3, 4, 4), (3, 8, 8)], 4, Some(1));
-    misses(&[(1, 1, 2), (1, 1, 2)], 1, None);
+    misses(&[(3, 4, 4), (3, 8, 8)], 4, Some(1), 1);
+    misses(&[(1, 1, 2), (1, 1, 2)], 1, None, 1);
     meets(&[(1, 1, 2), (1, 9, 9)], 2);
-    misses(&[(5, 3, 10)], 3, None);
+    misses(&[(5, 3, 10)], 3, None, 2);
     meets(&[(65535, 65535, 65535)], 65535);
-    misses(&[(65535, 65535, 65535), (1, 65535, 65535)], 65535, None);
+    misses(&[(65535, 65535, 65535), (1, 65535, 65535)], 65535, None, 1);
     too_far(&[(1, 65535, 1), (1, 65535, 65535)]);
 }
 
@@ -56,7 +56,7 @@ fn slips_we_expect() {
 #[test]
 fn edges_of_the_horizon() {
     meets(&[(25000, 65535, 50000), (10000, 65535, 20000)], 100_000);
-    misses(&[(50000, 50000, 50000), (1, 65535, 34465)], 100_000, None);
+    misses(&[(50000, 50000, 50000), (1, 65535, 34465)], 100_000, None, 2);
     let fails_late = [(50000, 50001, 50000), (2, 65535, 65535)];
     too_far(&fails_late);
     assert!(definitions::fails(&tasks(&set(&fails_late)).unwrap(), HORIZON + 1));
@@ -114,7 +114,8 @@ const WHOLE_RUN: &str = "tasks=2\nc=2\nd=4\nt=4\nr=0\nc=3\nd=6\nt=6\nr=0\n\
 
 #[test]
 fn whole_run() {
-    let printed = "set=1\nverdict=meets\nspan=12\nset=2\nverdict=misses\nlength=4\nblocker=1\n";
+    let printed = "set=1\nverdict=meets\nspan=12\nset=2\nverdict=misses\nlength=4\nblocker=1\n\
+                   over=1\n";
     assert_eq!(output(WHOLE_RUN.as_bytes()), printed);
     assert_eq!(tile_check(WHOLE_RUN.as_bytes()), 100);
     assert_eq!(tile_check(&WHOLE_RUN.as_bytes()[WHOLE_RUN.len() / 2..]), 101);
@@ -126,7 +127,7 @@ fn other_lines_of_the_program() {
     let sets = "tasks=1\nc=1\nd=1\nt=0\nr=0\ntasks=1\nc=5\nd=3\nt=10\nr=0\n\
                 tasks=2\nc=1\nd=65535\nt=1\nr=0\nc=1\nd=65535\nt=65535\nr=0\ntasks=1\n\n";
     let printed = "set=1\nrefused=4\nword=2\nset=2\nverdict=misses\nlength=3\nblocker=none\n\
-                   set=3\nverdict=toofar\nset=4\nrefused=7\nline=2\n";
+                   over=2\nset=3\nverdict=toofar\nset=4\nrefused=7\nline=2\n";
     assert_eq!(output(sets.as_bytes()), printed);
 }
 
@@ -223,15 +224,15 @@ fn writer_and_reader_undo_each_other() {
 }
 
 /// A small deterministic source for the checks below.
-struct Draw(u64);
+pub struct Draw(pub u64);
 
 impl Draw {
-    fn below(&mut self, bound: u32) -> u32 {
+    pub fn below(&mut self, bound: u32) -> u32 {
         self.0 = self.0.wrapping_mul(6_364_136_223_846_793_005).wrapping_add(1);
         ((self.0 >> 33) % u64::from(bound)) as u32
     }
 
-    fn table(&mut self, most_tasks: u32, most: u32) -> Vec<u32> {
+    pub fn table(&mut self, most_tasks: u32, most: u32) -> Vec<u32> {
         let count = 1 + self.below(most_tasks);
         let task = |draw: &mut Draw| {
             let c = 1 + draw.below(1 + most / 4);
@@ -244,7 +245,8 @@ impl Draw {
 /// The verdict as the paper words it: every L, then every t, one by one.
 fn plain_verdict(tasks: &[Task]) -> Verdict {
     if let Some(length) = (1..=HORIZON).find(|&l| definitions::fails(tasks, l)) {
-        return Verdict::Misses { length, blocker: definitions::blocker(tasks, length) };
+        let blocker = definitions::blocker(tasks, length);
+        return Verdict::Misses { length, blocker, over: definitions::excess(tasks, length) };
     }
     definitions::span_up_to(tasks, HORIZON).map_or(Verdict::TooFar, |span| Verdict::Meets { span })
 }
@@ -307,7 +309,7 @@ fn plain_dispatch(streams: &[Stream]) -> Vec<Run> {
     runs
 }
 
-fn runs(streams: &[Stream]) -> Vec<Run> {
+pub fn runs(streams: &[Stream]) -> Vec<Run> {
     let mut runs = Vec::new();
     dispatch(streams, |run| runs.push(run));
     runs
@@ -370,7 +372,7 @@ fn named_pattern_is_the_one_of_the_paper_and_is_late() {
     let mut seen = [0; 2];
     for case in 0..3000 {
         let tasks = tasks(&draw.table(5, [5, 12, 40][case % 3])).unwrap();
-        let Verdict::Misses { length, blocker } = judge(&tasks) else { continue };
+        let Verdict::Misses { length, blocker, .. } = judge(&tasks) else { continue };
         let streams = named(&tasks, length, blocker);
         let jobs: Vec<_> = all_jobs(&streams).iter().map(|job| (job.task, job.release)).collect();
         assert_eq!(jobs, plain_releases(&tasks, length, blocker), "{tasks:?}");

@@ -7,7 +7,7 @@ use crate::table::{self, Task, HORIZON};
 #[derive(Clone, Copy, Debug, PartialEq, Eq)]
 pub enum Verdict {
     Meets { span: u64 },
-    Misses { length: u64, blocker: Option<usize> },
+    Misses { length: u64, blocker: Option<usize>, over: u64 },
     TooFar,
 }
 
@@ -26,8 +26,8 @@ pub fn verdict(words: &[u32]) -> Result<Verdict, Refusal> {
 }
 
 pub fn judge(tasks: &[Task]) -> Verdict {
-    if let Some(length) = first_failing(tasks) {
-        return Verdict::Misses { length, blocker: blocker(tasks, length) };
+    if let Some((length, over)) = first_failing(tasks) {
+        return Verdict::Misses { length, blocker: blocker(tasks, length), over };
     }
     match span(tasks) {
         Some(span) => Verdict::Meets { span },
@@ -35,9 +35,9 @@ pub fn judge(tasks: &[Task]) -> Verdict {
     }
 }
 
-/// The least L from 1 to H that fails. Due grows by C at D, D + T and so on,
+/// The least L from 1 to H that fails, and its excess. Due grows by C at D, D + T and so on,
 /// so it is kept up from length to length and no division is needed.
-fn first_failing(tasks: &[Task]) -> Option<u64> {
+fn first_failing(tasks: &[Task]) -> Option<(u64, u64)> {
     let mut growth: Vec<u64> = tasks.iter().map(|task| task.d).collect();
     let mut due = 0;
     for length in 1..=HORIZON {
@@ -51,7 +51,7 @@ fn first_failing(tasks: &[Task]) -> Option<u64> {
             }
         }
         if due >= 1 && due + wait > length {
-            return Some(length);
+            return Some((length, due + wait - length));
         }
     }
     None

@@ -10,6 +10,7 @@ use borrow.Author.Tests.{ltb-true, leb-true, lt-leb}
 use Rattle.rules.specs.Numbers.{horizon}
 use Rattle.rules.specs.declared.Task.{Task}
 use Rattle.rules.specs.Demand.{fails, excess, work, closes, firstFail, span, blocker, verdict}
+use Rattle.rules.specs.declared.Blocker.{Blocker}
 use Rattle.rules.specs.declared.Verdict.{Verdict}
 use Rattle.rules.proofs.Booleans.{lt-or-ge}
 use Rattle.rules.proofs.Search.{NonePasses}
@@ -43,9 +44,10 @@ module _ (ts : List Task) where
     span-none h = none-when (λ s. closes s ts) .1 (λ s a b. none-closes (work t ts) (omega arith) s a (omega arith))
 
   -- the verdict by what the looks find
-  pub verdict-misses : (L : ℕ) → firstFail ts ≡ some L → verdict ts ≡ Verdict.Misses L (blocker L ts) (excess L ts)
+  pub verdict-misses : (L : ℕ) (b : Blocker) (over : ℕ) → firstFail ts ≡ some L → b ≡ blocker L ts → over ≡ excess L ts
+      → verdict ts ≡ Verdict.Misses L b over
   unfolding verdict
-  verdict-misses L e = rw e
+  verdict-misses L b over e f g = rw (e, f, g)
 
   pub verdict-meets : (σ : ℕ) → firstFail ts ≡ none → span ts ≡ some σ → verdict ts ≡ Verdict.Meets σ
   unfolding verdict

@@ -20,7 +20,7 @@ returns : tie.Need-returns
 returns c =
     let at-found = c .before .before in
     let found = subst (FirstFail _) (at-found .first .given .1) (at-found .before .before .first-fail .ensures) in
-    rw (c .blocker-at .ensures, found .1) (sym (verdict-misses _ _ (found .0)))
+    sym (verdict-misses _ _ _ _ (found .0) (c .blocker-at .ensures) (found .1))
 
 enum-told : tie.Need-enum-told
 enum-told c = search needs

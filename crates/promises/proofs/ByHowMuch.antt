@@ -1,13 +1,12 @@
 -- What the excess says: each line of the page is a law of the excess, at the length of a "misses".
-use mathlib.Core.Path.{_≡_, refl, sym, _∙_}
+use mathlib.Core.Path.{_≡_, refl}
 use mathlib.Core.Option.{Option, none, some}
-use Prim.Native.Nat.{ℕ, _≤_, _<_}
-use native.Mathlib.Omega.{arith}
+use Prim.Native.Nat.{ℕ, _≤_}
 use mathlib.Core.List.{List}
-use Rattle.rules.specs.Task.{tasksOf, executions, AllSound}
+use Rattle.rules.specs.Task.{tasksOf}
 use Rattle.rules.specs.declared.Task.{Task}
 use Rattle.rules.specs.Table.{tableRefusal}
-use Rattle.rules.specs.Demand.{fails, excess, blocker, verdict}
+use Rattle.rules.specs.Demand.{fails, excess, verdict}
 use Rattle.rules.specs.Answers.{verdictAnswer}
 use Rattle.rules.specs.declared.Refusal.{Refusal}
 use Rattle.rules.specs.declared.Blocker.{Blocker}

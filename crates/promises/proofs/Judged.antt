@@ -1,26 +1,24 @@
 -- What the verdict call gives, and what is said of the first set of a text, is exactly what the paper's tables have.
-use mathlib.Core.Path.{_≡_, refl, sym, ap, subst, _∙_}
+use mathlib.Core.Path.{_≡_, refl, sym, ap, subst}
 use mathlib.Core.Logic.{_↔_}
 use mathlib.Core.Option.{Option, none, some}
-use Prim.Native.Nat.{ℕ, _+_, _-_, _*_, _%_, _≤_, _<_}
+use Prim.Native.Nat.{ℕ, _+_, _-_}
 use native.Mathlib.Omega.{arith}
 use mathlib.Core.List.{List, [], _∷_}
-use lib.ListN.{length}
 use Rattle.rules.specs.declared.Task.{Task}
 use Rattle.rules.specs.Task.{tasksOf}
-use Rattle.rules.specs.Table.{tableRefusal, FirstOut, Fine}
+use Rattle.rules.specs.Table.{tableRefusal, FirstOut}
 use Rattle.rules.specs.Told.{Told, _with_, judgedTold, verdictTold}
-use Rattle.rules.specs.Demand.{Due, Wait, blocker, Blocks, fails, closes, verdict}
+use Rattle.rules.specs.Demand.{Due, Wait, blocker, fails, verdict}
 use Rattle.rules.specs.Text.{Lines, took, stop, readSet}
 use Rattle.rules.specs.Answers.{verdictAnswer, firstAnswer}
 use Rattle.rules.specs.declared.Refusal.{Refusal}
 use Rattle.rules.specs.declared.Blocker.{Blocker}
 use Rattle.rules.specs.declared.Verdict.{Verdict}
-use Rattle.rules.specs.declared.VerdictAnswer.{VerdictAnswer}
 use Rattle.rules.proofs.Blockers.{blocker-task, blocker-nobody}
 use Rattle.rules.proofs.Calls.{verdict-refused, verdict-judged, first-stops, first-read}
 use Rattle.rules.proofs.SetTrips.{set-back}
-use Rattle.promises.specs.Tables.{Least, None, TableTells, one, two, three, four, VerdictTells, JudgeTells, FirstTells}
+use Rattle.promises.specs.Tables.{Least, TableTells, one, two, three, four, VerdictTells, JudgeTells, FirstTells}
 use Rattle.promises.proofs.Exact.{table-tells, told-table, fine-not, not-fine}
 use Rattle.promises.proofs.Kept.{exactly}
 

@@ -17,7 +17,6 @@ use Rattle.rules.specs.Report.{verdictLines, answerLines, setLines, setRest, se
 use Rattle.rules.specs.declared.Refusal.{Refusal}
 use Rattle.rules.specs.declared.Blocker.{Blocker}
 use Rattle.rules.specs.declared.Verdict.{Verdict}
-use Rattle.rules.specs.declared.VerdictAnswer.{VerdictAnswer}
 use Rattle.rules.proofs.Refused.{TableSays, no-word, not-fours, too-many, out-of-range, table-says}
 use Rattle.rules.proofs.Calls.{verdict-refused, verdict-judged, first-stops, first-read}
 use Rattle.rules.proofs.SetTrips.{set-back}

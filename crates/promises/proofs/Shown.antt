@@ -1,21 +1,20 @@
 -- What the schedule and the pattern give is exactly what the paper's tables have: the rows are those that obey the dispatcher's rules.
-use mathlib.Core.Path.{_≡_, refl, sym, ap, subst, _∙_}
+use mathlib.Core.Path.{_≡_, refl, sym, ap, _∙_}
 use mathlib.Core.Logic.{_↔_, inl, inr}
 use mathlib.Core.Option.{Option, none, some}
 use Prim.Native.Nat.{ℕ, _+_, _-_, _*_, _≤_, _<_}
 use native.Mathlib.Omega.{arith}
 use native.Mathlib.Decide.{decLt}
-use mathlib.Core.List.{List, [], _∷_, _++_, List·Memᴰ}
-use mathlib.Core.Bool.{true, false}
+use mathlib.Core.List.{List, _++_}
+use mathlib.Core.Bool.{false}
 use lib.ListN.{length, drop}
-use Rattle.rules.specs.declared.Task.{Task}
-use Rattle.rules.specs.Task.{tasksOf, AllSound}
-use Rattle.rules.specs.Table.{tableRefusal, Fine}
-use Rattle.rules.specs.Told.{Told, _with_, scheduleTold, patternTold}
-use Rattle.rules.specs.Dispatch.{Job, Row, late, dispatch, lateJob, rowWords}
+use Rattle.rules.specs.Task.{tasksOf}
+use Rattle.rules.specs.Table.{tableRefusal}
+use Rattle.rules.specs.Told.{Told, scheduleTold, patternTold}
+use Rattle.rules.specs.Dispatch.{Job, Row, dispatch, lateJob, rowWords}
 use Rattle.rules.specs.Policy.{Obeys, NamedLate}
 use Rattle.rules.specs.Jobs.{planned, concrete, named}
-use Rattle.rules.specs.Demand.{Due, Wait, fails, closes, blocker, verdict}
+use Rattle.rules.specs.Demand.{Due, Wait, fails, blocker, verdict}
 use Rattle.rules.specs.Answers.{timing, scheduleAnswer, scheduleBuffer, isMisses, rowsOf, patternAnswer, patternBuffer}
 use Rattle.rules.specs.Calls.{Dispatches, Schedules, Shows}
 use Rattle.rules.specs.declared.Plan.{Plan}

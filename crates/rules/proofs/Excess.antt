@@ -1,21 +1,21 @@
 -- The excess: 1 or more where a length fails; what it says of a set that was changed; and how great it can be at the least length that fails, since
 -- from one length to the next each task has at most one more job due, or waits with less than its C.
-use mathlib.Core.Path.{_≡_, refl, sym, ap, _∙_}
+use mathlib.Core.Path.{_≡_, refl, sym, _∙_}
 use mathlib.Core.Logic.{_↔_, _⊎_, inl, inr, ⊎-elim}
-use Prim.Native.Nat.{ℕ, zero, suc, _+_, _-_, _*_, _/_, max, _≤_, _<_}
+use Prim.Native.Nat.{ℕ, zero, suc, _+_, _-_, _*_, _/_, _≤_, _<_}
 use native.Mathlib.Nat.{mul-le-mul-left, zero-div, add-div-right}
 use native.Mathlib.Omega.{arith}
 use mathlib.Core.List.{List, [], _∷_, List·Memᴰ, List·Memᴰ·head, List·Memᴰ·tail}
-use mathlib.Core.Bool.{Bool, true, false}
+use mathlib.Core.Bool.{true, false}
 use lib.Dec.{leb, ltb}
-use borrow.Author.Tests.{leb-true, ltb-true, le-ltb, lt-leb}
-use Rattle.rules.specs.Numbers.{taskMost, wordMost}
+use borrow.Author.Tests.{leb-true, ltb-true, le-ltb}
+use Rattle.rules.specs.Numbers.{wordMost}
 use Rattle.rules.specs.Task.{tasksOf, executions, Sound, AllSound}
-use Rattle.rules.specs.Table.{taskIn, tasksFrom, Valid, ValidTable}
+use Rattle.rules.specs.Table.{tasksFrom, Valid}
 use Rattle.rules.specs.declared.Task.{Task}
 use Rattle.rules.specs.declared.Blocker.{Blocker}
 use Rattle.rules.specs.declared.Verdict.{Verdict}
-use Rattle.rules.specs.Demand.{due, Due, wait, Wait, fails, excess, blocker, verdict}
+use Rattle.rules.specs.Demand.{due, Due, Wait, fails, excess, verdict}
 use Rattle.rules.proofs.Booleans.{true-is-not-false, lt-or-ge}
 use Rattle.rules.proofs.Tables.{tasks-are, sound-tasks, task-C-most}
 use Rattle.rules.proofs.Blockers.{blocker-nobody}

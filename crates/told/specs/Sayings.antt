@@ -1,6 +1,6 @@
 -- What is told of each answer: the rules' number and values, with those that are the probe's own.
 use Prim.Native.Nat.{ℕ}
-use mathlib.Core.List.{List, [], _∷_, _++_}
+use mathlib.Core.List.{[], _∷_, _++_}
 use Rattle.rules.specs.Refusals.{numberOf}
 use Rattle.rules.specs.Told.{Told, _with_, numberTold, valuesTold, readTold, judgedTold, verdictTold}
 use Rattle.rules.specs.declared.Blocker.{Blocker}

@@ -1,7 +1,7 @@
 -- `demand::excess_at` gives the excess of what was worked out for the length: by cases on whether anything is due; the greater of the sum and the
 -- length, less the length, is the sum less the length, or 0.
-use mathlib.Core.Path.{sym, _∙_}
-use Prim.Native.Nat.{_+_, _-_, max, _≤_, _<_}
+use mathlib.Core.Path.{sym}
+use Prim.Native.Nat.{_-_}
 use native.Mathlib.Omega.{arith}
 use borrow.Author.Needs.{needs}
 use denote.Ref.{now}

@@ -1,6 +1,6 @@
 -- `verdict::first_fail` finds the least length that fails, with its excess: it looks at one after the other, and none before the one looked at
 -- fails, so that the excess there is below the sum of the executions and fits.
-use Prim.Native.Nat.{_+_, _-_, _≤_, _<_}
+use Prim.Native.Nat.{_+_, _-_, _≤_}
 use native.Mathlib.Omega.{arith}
 use Rattle.rules.specs.Task.{tasksOf}
 use Rattle.rules.specs.Numbers.{horizon}

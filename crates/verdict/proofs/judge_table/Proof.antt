@@ -1,5 +1,5 @@
 -- `verdict::judge_table` gives the verdict: the two looks find what the definition searches for, and it is judged by them in the same order.
-use mathlib.Core.Path.{_≡_, sym, ap, subst, _∙_}
+use mathlib.Core.Path.{sym, ap, subst, _∙_}
 use borrow.Author.Needs.{needs}
 use Rattle.rules.proofs.Looks.{verdict-misses, verdict-meets, verdict-too-far}
 use Rattle.verdict.specs.Searches.{FirstFail, foundAt}

@@ -14,8 +14,7 @@ use Rattle.rules.specs.Choice.{if_then_else_}
 use Rattle.rules.specs.Task.{taskAt, AllSound}
 use Rattle.rules.specs.declared.Task.{Task}
 use Rattle.rules.specs.Dispatch.{Job}
-use Rattle.rules.specs.Jobs.{OnTrain, train, trains, countBefore, concreteTrain, planTrain, planned, concrete, namedTrain, named}
-use Rattle.rules.specs.declared.Train.{Train}
+use Rattle.rules.specs.Jobs.{Train, OnTrain, train, trains, countBefore, concreteTrain, planTrain, planned, concrete, namedTrain, named}
 use Rattle.rules.specs.Demand.{countWithin, blocker}
 use Rattle.rules.specs.declared.Blocker.{Blocker}
 use Rattle.rules.proofs.Legal.{taskAt-sound}

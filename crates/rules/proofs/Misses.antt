@@ -12,8 +12,7 @@ use Rattle.rules.specs.Choice.{if_then_else_}
 use Rattle.rules.specs.Task.{taskAt, AllSound}
 use Rattle.rules.specs.declared.Task.{Task}
 use Rattle.rules.specs.Dispatch.{Job, dispatch}
-use Rattle.rules.specs.Jobs.{train, trains, planned, namedTrain, named}
-use Rattle.rules.specs.declared.Train.{Train}
+use Rattle.rules.specs.Jobs.{Train, train, trains, planned, namedTrain, named}
 use Rattle.rules.specs.Legal.{Legal}
 use Rattle.rules.specs.Demand.{countWithin, due, Due, Wait, fails, blocker, Blocks}
 use Rattle.rules.specs.declared.Blocker.{Blocker}

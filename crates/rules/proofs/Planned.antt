@@ -4,12 +4,11 @@ use Prim.Native.Nat.{ℕ, suc, _*_, _+_}
 use mathlib.Core.List.{List, [], _++_}
 use lib.ListN.{length, length-append}
 use Rattle.rules.specs.declared.Task.{Task}
-use Rattle.rules.specs.declared.Train.{Train}
 use Rattle.rules.specs.declared.Plan.{Plan}
 use Rattle.rules.specs.Task.{tasksOf}
 use Rattle.rules.specs.Table.{taskIn, tasksFrom, Valid}
 use Rattle.rules.specs.Dispatch.{Job, dispatch}
-use Rattle.rules.specs.Jobs.{trains, planTrain, planned}
+use Rattle.rules.specs.Jobs.{Train, trains, planTrain, planned}
 use Rattle.rules.proofs.Tables.{tasks-are, sound-tasks}
 use Rattle.rules.proofs.Members.{length-train}
 use Rattle.rules.proofs.Trains.{trainOf, trains-legal}

@@ -6,9 +6,8 @@ use native.Mathlib.Omega.{arith}
 use borrow.Author.Tests.{le-leb, lt-leb, lt-ltb, le-ltb, eq-eqb, ne-eqb}
 use Rattle.rules.specs.declared.Task.{Task}
 use Rattle.rules.specs.Demand.{countWithin, due}
-use Rattle.rules.specs.Jobs.{countBefore, concreteTrain, namedTrain}
+use Rattle.rules.specs.Jobs.{Train, countBefore, concreteTrain, namedTrain}
 use Rattle.rules.specs.declared.Blocker.{Blocker}
-use Rattle.rules.specs.declared.Train.{Train}
 
 module _ (x : ℕ) (τ : Task) where
   pub within-some : τ .D ≤ x → countWithin x τ ≡ 1 + (x - τ .D) / τ .T

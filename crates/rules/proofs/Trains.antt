@@ -8,8 +8,7 @@ use lib.ListN.{length}
 use Rattle.rules.specs.Task.{taskAt, AllSound}
 use Rattle.rules.specs.declared.Task.{Task}
 use Rattle.rules.specs.Dispatch.{Job}
-use Rattle.rules.specs.Jobs.{train, trains}
-use Rattle.rules.specs.declared.Train.{Train}
+use Rattle.rules.specs.Jobs.{Train, train, trains}
 use Rattle.rules.specs.Legal.{Apart, Legal}
 use Rattle.rules.proofs.TasksFrom.{Rest, rest-all, rest-here, rest-next}
 use Rattle.rules.proofs.Legal.{taskAt-sound}

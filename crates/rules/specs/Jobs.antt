@@ -9,7 +9,6 @@ use Rattle.rules.specs.declared.Task.{Task}
 use Rattle.rules.specs.Dispatch.{Job}
 use Rattle.rules.specs.Demand.{countWithin, blocker}
 use Rattle.rules.specs.declared.Blocker.{Blocker}
-use Rattle.rules.specs.declared.Train.{Train}
 use Rattle.rules.specs.declared.Plan.{Plan}
 
 -- n jobs of task number k, the first being number q and released at r, each a period after the one before; all run for C
@@ -23,6 +22,11 @@ pub record OnTrain (r : ℕ) (τ : Task) (j : Job) : Type 0 where
   pub released : j .release ≡ r + j .number * τ .T
   pub due : j .deadline ≡ j .release + τ .D
   pub runs : j .run ≡ τ .C
+
+-- which train a task has: when its first job is released, and how many jobs there are
+pub record Train : Type 0 where
+  pub first : ℕ
+  pub count : ℕ
 
 -- for each task in order, numbered from k on, its train
 unfoldable pub trains : (ℕ → Task → Train) → ℕ → List Task → List Job

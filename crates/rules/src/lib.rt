@@ -27,12 +27,6 @@ pub struct Task {
     pub R: u32,
 }
 
-// A task's train of jobs: its first release, and how many there are, each a period after the one before.
-pub struct Train {
-    pub first: u32,
-    pub count: u32,
-}
-
 // Which trains the tasks of a table have: those of the concrete schedule to an end tick; or those of the pattern that a length names, with its
 // blocker.
 pub enum Plan {

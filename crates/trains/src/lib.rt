@@ -1,12 +1,20 @@
-// A task's train of jobs: when the first is released, and how many there are.
+// A task's train of jobs under a plan: how many there are, and when each is released. Nothing of it is kept: it is worked out where it is asked for.
 ghost use mathlib.Core.Path.{_≡_};
+ghost use Prim.Native.Nat.{_-_, _*_, _^_, _<_};
 ghost use Rattle.rules.specs.Task.{Sound};
 ghost use Rattle.rules.specs.Demand.{countWithin};
 ghost use Rattle.rules.specs.Jobs.{countBefore, namedTrain, planTrain};
+ghost use Rattle.trains.specs.Releases.{Comes, releasedBefore, dueWithin};
+use arith::wide;
 use rules::Blocker;
 use rules::Plan;
 use rules::Task;
-use rules::Train;
+
+// When a job is released, if the train has it.
+pub enum Release {
+    At(u64),
+    Never,
+}
 
 // How many jobs of a task are released before an end tick.
 fn count_before(task: Task, end: u32) -> u32
@@ -32,36 +40,90 @@ pub fn count_within(task: Task, length: u32) -> u32
     }
 }
 
-// The train of task k in the pattern that a length names: a blocker comes once, at 0, and the others from 1 on; without one all come from 0 on.
-fn named_train(length: u32, blocker: Blocker, k: usize, task: Task) -> Train
+// How many jobs task k has in the pattern that a length names: a blocker comes once.
+fn named_count(length: u32, blocker: Blocker, k: usize, task: Task) -> u32
     requires { ⌜ Sound task ⌝ }
-    ensures { λ r. ⌜ r ≡ namedTrain length blocker k task ⌝ }
+    ensures { λ r. ⌜ r ≡ namedTrain length blocker k task .count ⌝ }
 {
     let Blocker::Task(b) = blocker else {
-        return Train {
-            first: 0,
-            count: count_within(task, length),
-        };
+        return count_within(task, length);
     };
     if k == b as usize {
-        return Train { first: 0, count: 1 };
+        return 1;
     }
-    Train {
-        first: 1,
-        count: count_within(task, length),
+    count_within(task, length)
+}
+
+// How many jobs task k has under a plan.
+pub fn count_of(plan: Plan, k: usize, task: Task) -> u32
+    requires { ⌜ Sound task ⌝ }
+    ensures { λ r. ⌜ r ≡ planTrain plan k task .count ⌝ }
+{
+    match plan {
+        Plan::Concrete(end) => count_before(task, end),
+        Plan::Named(length, blocker) => named_count(length, blocker, k, task),
     }
 }
 
-// The train of task k under a plan.
-pub fn train_of(plan: Plan, k: usize, task: Task) -> Train
+// How long q periods are: a wide number has room for a word more.
+fn periods(q: u32, period: u32) -> u64
+    ensures { λ r. ⌜ (r ≡ q * period) × (r < 2 ^ 64 - 2 ^ 32) ⌝ }
+{
+    wide(q) * wide(period)
+}
+
+// When job q of a task is released, if that is before an end tick.
+fn release_before(task: Task, end: u32, q: u32) -> Release
     requires { ⌜ Sound task ⌝ }
-    ensures { λ r. ⌜ r ≡ planTrain plan k task ⌝ }
+    ensures { λ r. ⌜ Comes (releasedBefore end task) task q r ⌝ }
+{
+    let at = wide(task.R) + periods(q, task.T);
+    if at < wide(end) {
+        Release::At(at)
+    } else {
+        Release::Never
+    }
+}
+
+// When job q of a task that comes from a tick on is released, if it is due within a length from then.
+fn release_within(task: Task, length: u32, first: u32, q: u32) -> Release
+    requires { ⌜ Sound task ⌝ }
+    ensures { λ r. ⌜ Comes (dueWithin first length task) task q r ⌝ }
+{
+    let after = periods(q, task.T);
+    if wide(task.D) + after <= wide(length) {
+        Release::At(wide(first) + after)
+    } else {
+        Release::Never
+    }
+}
+
+// When job q of task k is released in the pattern that a length names: a blocker comes once, at 0, and the others from 1 on; without one all come
+// from 0 on.
+fn named_release(length: u32, blocker: Blocker, k: usize, task: Task, q: u32) -> Release
+    requires { ⌜ Sound task ⌝ }
+    ensures { λ r. ⌜ Comes (namedTrain length blocker k task) task q r ⌝ }
+{
+    let Blocker::Task(b) = blocker else {
+        return release_within(task, length, 0, q);
+    };
+    if k != b as usize {
+        return release_within(task, length, 1, q);
+    }
+    if q == 0 {
+        Release::At(0)
+    } else {
+        Release::Never
+    }
+}
+
+// When job q of task k is released under a plan, if its train has that job.
+pub fn release_of(plan: Plan, k: usize, task: Task, q: u32) -> Release
+    requires { ⌜ Sound task ⌝ }
+    ensures { λ r. ⌜ Comes (planTrain plan k task) task q r ⌝ }
 {
     match plan {
-        Plan::Concrete(end) => Train {
-            first: task.R,
-            count: count_before(task, end),
-        },
-        Plan::Named(length, blocker) => named_train(length, blocker, k, task),
+        Plan::Concrete(end) => release_before(task, end, q),
+        Plan::Named(length, blocker) => named_release(length, blocker, k, task, q),
     }
 }

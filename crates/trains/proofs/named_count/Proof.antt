@@ -1,12 +1,11 @@
--- `trains::named_train` gives the train of the named pattern: by cases on the blocker, as the definition goes.
-use mathlib.Core.Path.{_≡_, sym, ap}
-use Prim.Native.Nat.{ℕ}
+-- `trains::named_count` counts the jobs of the named pattern: by cases on the blocker, as the definition goes.
+use mathlib.Core.Path.{sym, ap, _∙_}
 use native.Mathlib.Omega.{arith}
 use borrow.Author.Needs.{needs}
-use Rattle.rules.specs.declared.Train.{Train}
+use Rattle.rules.specs.Jobs.{Train}
 use Rattle.rules.proofs.TaskTrains.{nobody-train, blocker-train, other-train}
-use Rattle.trains.proofs.named_train.Statement.{statement}
-use Rattle.trains.proofs.named_train.Tie as tie
+use Rattle.trains.proofs.named_count.Statement.{statement}
+use Rattle.trains.proofs.named_count.Tie as tie
 
 enum-known-blocker : tie.Need-enum-known-blocker
 enum-known-blocker c = search needs
@@ -21,7 +20,8 @@ count-within-requires c κs = search needs
 returns : tie.Need-returns
 returns c =
     let at-start = c .before .before .before .args in
-    rw (c .count-within .ensures) (sym (nobody-train (at-start .length) (at-start .k) (at-start .task) (at-start .blocker) (c .before .enum-told .given .1)))
+    c .count-within .ensures
+    ∙ sym (ap (λ (x : Train). x .count) (nobody-train (at-start .length) (at-start .k) (at-start .task) (at-start .blocker) (c .before .enum-told .given .1)))
 
 cast-if1 : tie.Need-cast-if1
 cast-if1 c = search needs
@@ -30,7 +30,7 @@ cast-if1 c = search needs
 returns-2 : tie.Need-returns-2
 returns-2 c =
     let at-start = c .before .before .before .before .args in
-    sym (blocker-train (at-start .length) (at-start .k) (at-start .task) (at-start .blocker) _ (c .before .before .blocker .given .1) (c .if1 .taken))
+    sym (ap (λ (x : Train). x .count) (blocker-train (at-start .length) (at-start .k) (at-start .task) (at-start .blocker) _ (c .before .before .blocker .given .1) (c .if1 .taken)))
 
 count-within-requires-2 : tie.Need-count-within-requires-2
 count-within-requires-2 c κs = search needs
@@ -39,9 +39,9 @@ count-within-requires-2 c κs = search needs
 returns-3 : tie.Need-returns-3
 returns-3 c =
     let at-start = c .before .before .before .before .before .args in
-    rw (c .count-within2 .ensures)
-    (sym (other-train (at-start .length) (at-start .k) (at-start .task) (at-start .blocker) _ (c .before .before .before .blocker .given .1) (c .before .if1 .left)))
+    c .count-within2 .ensures
+    ∙ sym (ap (λ (x : Train). x .count) (other-train (at-start .length) (at-start .k) (at-start .task) (at-start .blocker) _ (c .before .before .before .blocker .given .1) (c .before .if1 .left)))
 
-pub named-train-spec : {M : Type 1} → statement M
-named-train-spec =
+pub named-count-spec : {M : Type 1} → statement M
+named-count-spec =
     tie.close (tie.spec enum-known-blocker enum-told count-within-requires returns cast-if1 returns-2 count-within-requires-2 returns-3)

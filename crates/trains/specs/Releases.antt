@@ -1,0 +1,28 @@
+-- When a job of a train is released, if the train has it.
+use mathlib.Core.Path.{_≡_}
+use Prim.Native.Nat.{ℕ, _+_, _*_, _^_, _≤_, _<_}
+use Rattle.rules.specs.Demand.{countWithin}
+use Rattle.rules.specs.Jobs.{Train, countBefore}
+use Rattle.rules.specs.declared.Task.{Task}
+use Rattle.trains.specs.declared.Release.{Release}
+use Rattle.trains.specs.declared.Release.the-variants.{At, Never}
+
+-- the train from R on of the jobs that are released before an end tick
+abbrev pub releasedBefore : ℕ → Task → Train
+releasedBefore Z τ = record { first = τ .R; count = countBefore Z τ }
+
+-- the train from a tick on of the jobs that are due within a length from then
+abbrev pub dueWithin : ℕ → ℕ → Task → Train
+dueWithin r L τ = record { first = r; count = countWithin L τ }
+
+-- the train has job q, and it is released at r; both numbers are small
+pub record Coming (x : Train) (τ : Task) (q r : ℕ) : Type 0 where
+  pub live : q < x .count
+  pub when : r ≡ x .first + q * τ .T
+  pub few : q + 1 < 2 ^ 32
+  pub early : r < 2 ^ 33
+
+-- what is said of job q of a train: when it is released, or that there is none
+pub record Comes (x : Train) (τ : Task) (q : ℕ) (said : Release) : Type 0 where
+  pub at : (r : ℕ) → said ≡ At r → Coming x τ q r
+  pub never : said ≡ Never → x .count ≤ q

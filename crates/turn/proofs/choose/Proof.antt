@@ -8,13 +8,13 @@ use Rattle.turn.proofs.choose.Statement.{statement}
 use Rattle.turn.proofs.choose.Tie as tie
 
 abbrev Inv-loop : tie.InvT-loop
-Inv-loop table first count next m t best₀ i₀ best i = (i ≤ m) × Best table first count next t m i best
+Inv-loop table plan next m t best₀ i₀ best i = (i ≤ m) × Best table plan next t m i best
 
 abbrev μ-loop : tie.MeasureT-loop
-μ-loop table first count next m t best₀ i₀ best i = i
+μ-loop table plan next m t best₀ i₀ best i = i
 
 loop-holds : tie.Need-loop-holds Inv-loop μ-loop
-loop-holds c = (omega arith, best-none _ _ _ _ _ _ _ refl)
+loop-holds c = (omega arith, best-none _ _ _ _ _ _ refl)
 
 sub-i : tie.Need-sub-i Inv-loop μ-loop
 sub-i c = omega arith
@@ -35,7 +35,7 @@ loop-again c = (omega arith, c .consider .ensures)
 returns : tie.Need-returns Inv-loop μ-loop
 returns c =
     let at-loop = c .before in
-    chosen _ _ _ _ _ _ _ _ (c .loop-test .left) (at-loop .before .before .pre .1 .1) (at-loop .loop .inv .1)
+    chosen _ _ _ _ _ _ _ (c .loop-test .left) (at-loop .before .before .pre .1 .1) (at-loop .loop .inv .1)
 
 pub choose-spec : {M : Type 1} → statement M
 choose-spec =

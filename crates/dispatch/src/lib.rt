@@ -3,10 +3,9 @@ ghost use mathlib.Core.Path.{_≡_};
 ghost use Prim.Native.Nat.{_*_, _^_, _<_, _≤_};
 ghost use lib.ListN.{length};
 ghost use Rattle.rules.specs.Task.{tasksOf};
-ghost use Rattle.rules.specs.Table.{taskCount, ValidTable};
+ghost use Rattle.rules.specs.Table.{ValidTable};
 ghost use Rattle.rules.specs.Jobs.{planned};
 ghost use Rattle.rules.specs.Calls.{Dispatches};
-ghost use Rattle.turn.specs.Counters.{jobsIn};
 use arith::wide;
 use row::Lateness;
 use row::answer;
@@ -17,22 +16,31 @@ use rules::Refusal;
 use rules::ScheduleAnswer;
 use table::TASK_MOST;
 use table::task_at;
-use trains::train_of;
+use trains::count_of;
 use turn::choose;
 
-// Writes the rows of the n jobs that the arrays hold, four words a row, and says whether all were on time.
-fn run(
-    table: &[u32],
-    first: &[u32; TASK_MOST],
-    count: &[u32; TASK_MOST],
-    n: u64,
-    rows: &mut [u64],
-) -> ScheduleAnswer
+// How many jobs a plan has.
+fn count_jobs(table: &[u32], plan: Plan) -> u64
     requires { ⌜ ValidTable (now table) ⌝ }
-    requires { ⌜ length (jobsIn (now table) (now first) (now count) (taskCount (now table))) ≡ n ⌝ }
+    ensures { λ n. ⌜ (n ≡ length (planned plan (tasksOf (now (table .entry))))) × (n < 2 ^ 39) ⌝ }
+{
+    let m = table.len() / 4;
+    let mut n: u64 = 0;
+    let mut i: usize = 0;
+    while i < m {
+        n += wide(count_of(plan, i, task_at(table, i)));
+        i += 1;
+    }
+    n
+}
+
+// Writes the rows of a plan's n jobs, four words a row, and says whether all were on time. Of each task only the number of its next job is kept.
+fn run(table: &[u32], plan: Plan, n: u64, rows: &mut [u64]) -> ScheduleAnswer
+    requires { ⌜ ValidTable (now table) ⌝ }
+    requires { ⌜ n ≡ length (planned plan (tasksOf (now table))) ⌝ }
     requires { ⌜ n < 2 ^ 39 ⌝ }
     requires { ⌜ 4 * n ≤ length (now rows) ⌝ }
-    ensures { λ r. ⌜ Dispatches (jobsIn (now (table .entry)) (now (first .entry)) (now (count .entry)) (taskCount (now (table .entry)))) (now (rows .entry)) r (now (rows .exit)) ⌝ }
+    ensures { λ r. ⌜ Dispatches (planned plan (tasksOf (now (table .entry)))) (now (rows .entry)) r (now (rows .exit)) ⌝ }
 {
     let m = table.len() / 4;
     let mut next = [0u32; TASK_MOST];
@@ -40,7 +48,7 @@ fn run(
     let mut late = Lateness::OnTime;
     let mut k: u64 = 0;
     while k < n {
-        let turn = choose(table, first, count, &next, m, t);
+        let turn = choose(table, plan, &next, m, t);
         let b = turn.task;
         let q = next[b];
         let task = task_at(table, b);
@@ -60,21 +68,10 @@ pub fn dispatch(table: &[u32], plan: Plan, rows: &mut [u64]) -> ScheduleAnswer
     requires { ⌜ ValidTable (now table) ⌝ }
     ensures { λ r. ⌜ Dispatches (planned plan (tasksOf (now (table .entry)))) (now (rows .entry)) r (now (rows .exit)) ⌝ }
 {
-    let m = table.len() / 4;
-    let mut first = [0u32; TASK_MOST];
-    let mut count = [0u32; TASK_MOST];
-    let mut n: u64 = 0;
-    let mut i: usize = 0;
-    while i < m {
-        let train = train_of(plan, i, task_at(table, i));
-        first[i] = train.first;
-        count[i] = train.count;
-        n += wide(train.count);
-        i += 1;
-    }
+    let n = count_jobs(table, plan);
     let room = rows.len() as u64;
     if room < 4 * n {
         return ScheduleAnswer::Refused(Refusal::TooShort);
     }
-    run(table, &first, &count, n, rows)
+    run(table, plan, n, rows)
 }

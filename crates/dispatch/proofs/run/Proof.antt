@@ -1,4 +1,4 @@
--- `dispatch::run` writes the rows of the jobs that the arrays hold: each turn of the loop is one row of the rules' dispatcher, and after n of
+-- `dispatch::run` writes the rows of a plan's jobs: each turn of the loop is one row of the rules' dispatcher, and after n of
 -- them no job is left.
 use Prim.Native.Nat.{ℕ, _+_, _-_}
 use mathlib.Core.Path.{ap, _∙_}
@@ -10,15 +10,15 @@ use Rattle.dispatch.proofs.run.Statement.{statement}
 use Rattle.dispatch.proofs.run.Tie as tie
 
 abbrev Inv-loop : tie.InvT-loop
-Inv-loop table first count n rows₀ m next₀ t₀ late₀ k₀ rows next t late k = State table first count rows₀ m n rows next t late k
+Inv-loop table plan n rows₀ m next₀ t₀ late₀ k₀ rows next t late k = State table plan rows₀ m n rows next t late k
 
 abbrev μ-loop : tie.MeasureT-loop
-μ-loop table first count n rows₀ m next₀ t₀ late₀ k₀ rows next t late k = n - k
+μ-loop table plan n rows₀ m next₀ t₀ late₀ k₀ rows next t late k = n - k
 
 loop-holds : tie.Need-loop-holds Inv-loop μ-loop
 loop-holds c =
     let at-start = c .before .before in
-    state-begin _ _ _ _ _ _ (at-start .pre .0) (at-start .pre .1 .0) (at-start .pre .1 .1 .1)
+    state-begin _ _ _ _ _ (at-start .pre .0) (at-start .pre .1 .0) (at-start .pre .1 .1 .1)
 
 choose-requires : tie.Need-choose-requires Inv-loop μ-loop
 choose-requires c κs =
@@ -55,7 +55,7 @@ put-row-requires : tie.Need-put-row-requires Inv-loop μ-loop
 put-row-requires c κs =
     let at-turn = c .before .before .before .before .before in
     let at-loop = at-turn .before .before .before in
-    omega (arith, state-length _ _ _ _ _ _ (start at-turn .pre .0) _ _ _ _ _ (at-loop .loop .inv), at-loop .loop .inv .fits, at-turn .before .before .loop-test .taken)
+    omega (arith, state-length _ _ _ _ _ (start at-turn .pre .0) _ _ _ _ _ (at-loop .loop .inv), at-loop .loop .inv .fits, at-turn .before .before .loop-test .taken)
 
 noted-requires : tie.Need-noted-requires Inv-loop μ-loop
 noted-requires c κs = search needs
@@ -87,7 +87,7 @@ loop-again c =
     let at-turn = turn c in
     let at-loop = at-turn .before .before .before in
     let runs = after-run .wide .ensures .0 ∙ ap (λ (τ : Task). τ .C) (after-run .before .task-at .ensures) in
-    state-more _ _ _ _ _ _ (start at-turn .pre .0) _ _ _ _ _ (at-loop .loop .inv) (at-turn .before .before .loop-test .taken) _ (at-turn .choose .ensures) _ _
+    state-more _ _ _ _ _ (start at-turn .pre .0) _ _ _ _ _ (at-loop .loop .inv) (at-turn .before .before .loop-test .taken) _ (at-turn .choose .ensures) _ _
     (after-number .wide2 .ensures .0) (ap (λ (v : ℕ). at-turn .choose .result .start + v) runs)
     _ (c .noted .ensures) _ (after-row .put-row .ensures)
 
@@ -97,12 +97,12 @@ answer-requires c κs = search needs
 same-length : tie.Need-same-length Inv-loop μ-loop
 same-length c =
     let at-loop = c .before .before in
-    state-length _ _ _ _ _ _ (at-loop .before .before .before .pre .0) _ _ _ _ _ (at-loop .loop .inv)
+    state-length _ _ _ _ _ (at-loop .before .before .before .pre .0) _ _ _ _ _ (at-loop .loop .inv)
 
 returns : tie.Need-returns Inv-loop μ-loop
 returns c =
     let at-loop = c .before .before in
-    state-end _ _ _ _ _ _ (at-loop .before .before .before .pre .0) _ _ _ _ _ (at-loop .loop .inv) (c .before .loop-test .left) _ (c .answer .ensures)
+    state-end _ _ _ _ _ (at-loop .before .before .before .pre .0) _ _ _ _ _ (at-loop .loop .inv) (c .before .loop-test .left) _ (c .answer .ensures)
 
 pub run-spec : {M : Type 1} → statement M
 run-spec =

@@ -6,12 +6,10 @@ use native.Mathlib.Omega.{arith}
 use mathlib.Core.List.{List, _++_}
 use lib.ListN.{length, take, drop}
 use lib.Seq.{length-take-le}
-use Rattle.rules.specs.Numbers.{taskMost}
 use Rattle.rules.specs.Text.{took, readSet}
 use Rattle.rules.specs.declared.ReadAnswer.the-variants.{Set}
-use Rattle.scan.specs.Scanned.{scanned}
-use Rattle.scan.specs.declared.Scan.{Scan}
 use Rattle.rules.proofs.Calls as calls
+use Rattle.scan.proofs.Found.{found, in-words}
 use borrow.Author.Needs.{needs}
 use Rattle.scan.proofs.read_set.Statement.{statement}
 use Rattle.scan.proofs.read_set.Tie as tie
@@ -23,29 +21,24 @@ start after-scan = after-scan .before .before .before .before .before
 abbrev at-scan : tie.After-known-told2 → tie.After-scan-set
 at-scan counted = counted .before .before .before .before
 
--- what the scan said is the set
-set-is : (after-scan : tie.After-scan-set) (r : Scan) → after-scan .scan-set .result ≡ r
-    → readSet (start after-scan .args .text .now) ≡ scanned r (after-scan .scan-set .last .1 .0) (after-scan .scan-set .last .1 .1 .0 .now)
-set-is after-scan r e = rw (← e) (sym (after-scan .scan-set .ensures .says))
-
--- the count of tasks, which are few, and their words
+-- the count of tasks and their words, which are all in the table of the scan
 abbrev count : tie.After-known-told2 → ℕ
 count counted = counted .before .scan2 .given .0 .0
-
-few : (counted : tie.After-known-told2) → count counted ≤ taskMost
-few counted = rw (counted .before .scan2 .given .1) at (at-scan counted .scan-set .ensures .few)
 
 abbrev words : tie.After-known-told2 → List ℕ
 words counted = take (4 * count counted) (at-scan counted .scan-set .last .1 .0)
 
-long : (counted : tie.After-known-told2) → length (words counted) ≡ 4 * count counted
-long counted =
+within : (counted : tie.After-known-told2) → 4 * count counted ≤ length (at-scan counted .scan-set .last .1 .0)
+within counted =
     let scan = at-scan counted .scan-set in
-    length-take-le (4 * count counted) (scan .last .1 .0) (omega (arith, few counted, scan .kept .1 .0))
+    in-words (scan .ensures) _ (counted .before .scan2 .given .1) (omega (arith, scan .kept .1 .0))
+
+long : (counted : tie.After-known-told2) → length (words counted) ≡ 4 * count counted
+long counted = length-take-le _ _ (within counted)
 
 whole : (counted : tie.After-known-told2)
     → readSet (start (at-scan counted) .args .text .now) ≡ took (words counted) (at-scan counted .scan-set .last .1 .1 .0 .now)
-whole counted = set-is (at-scan counted) _ (counted .before .scan2 .given .1)
+whole counted = found (at-scan counted .scan-set .ensures) _ (counted .before .scan2 .given .1)
 
 slice-aggregate-scan-set : tie.Need-slice-aggregate-scan-set
 slice-aggregate-scan-set c = search needs
@@ -77,12 +70,11 @@ slice-aggregate-copy-words c = search needs
 copy-words-requires : tie.Need-copy-words-requires
 copy-words-requires c κs =
     let has-room = c .before .before in
-    let counted = has-room .before in
-    (omega (arith, few counted, at-scan counted .scan-set .kept .1 .0), has-room .if1 .left)
+    (within (has-room .before), has-room .if1 .left)
 
 -- a line is not as due
 returns-2 : tie.Need-returns-2
-returns-2 c = calls.read-stops _ _ _ (set-is (c .before .before .before .before) _ (c .before .scan .given .1))
+returns-2 c = calls.read-stops _ _ _ (found (c .before .before .before .before .scan-set .ensures) _ (c .before .scan .given .1))
 
 same-length : tie.Need-same-length
 same-length c = search needs

@@ -52,7 +52,7 @@ cast-if2 c = search needs
 
 -- too many
 returns-3 : tie.Need-returns-3
-returns-3 c = stopped (too-many _ _ _ (first-line (c .before .before)) (c .before .if1 .left) (omega arith))
+returns-3 c = stopped (too-many _ _ _ (first-line (c .before .before)) (omega arith) (omega arith))
 
 task-lines-requires : tie.Need-task-lines-requires
 task-lines-requires c κs = search needs

@@ -51,7 +51,7 @@ returns c =
     let at-loop = c .before .before .before .before .before in
     let line = c .before .before .task-line in
     record {
-      says = sym (lines-wrong _ _ (at-loop .loop .words) (at-loop .loop .t .now) (omega arith) (sym (line .ensures .says) ∙ ap (λ (x : Number). seen x (line .last .1 .1 .0 .now)) (c .enum-told .given .1)))
+      says = sym (lines-wrong (4 * at-loop .before .before .before .args .n) (at-loop .loop .k) (at-loop .loop .words) (at-loop .loop .t .now) (omega arith) (sym (line .ensures .says) ∙ ap (λ (x : Number). seen x (line .last .1 .1 .0 .now)) (c .enum-told .given .1)))
           ∙ at-loop .loop .inv .1 .1;
       few = tt;
     }

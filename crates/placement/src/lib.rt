@@ -2,8 +2,9 @@
 ghost use mathlib.Core.Path.{_≡_};
 ghost use Rattle.rules.specs.Told.{numberTold, verdictTold};
 ghost use Rattle.rules.specs.Answers.{checkNumber};
-use rules::ReadAnswer;
+use rules::Refusal;
 use rules::VerdictAnswer;
+use scan::Scan;
 use table::TABLE_MOST;
 
 // The number of an answer.
@@ -22,13 +23,10 @@ pub extern "C" fn tile_check(text: &[u8]) -> u32
     ensures { λ n. ⌜ n ≡ checkNumber (now (text .entry)) ⌝ }
 {
     let mut words = [0u32; TABLE_MOST];
-    let mut code: u32 = 0;
-    let mut number: u32 = 0;
-    reader::read(text, &mut words, &mut code, &mut number);
-    let answer = reader::read_answer(code, number);
-    let ReadAnswer::Set(n) = answer else {
-        return code;
-    };
-    let m = 4 * n as usize;
-    answer_number(verdict::verdict(&words[..m]))
+    let mut rest = text;
+    let scan = scan::scan_set(text, &mut words, &mut rest);
+    match scan {
+        Scan::Whole(n) => answer_number(verdict::verdict(&words[..4 * n as usize])),
+        Scan::Stop(l) => answer_number(VerdictAnswer::Refused(Refusal::BadLine(l))),
+    }
 }

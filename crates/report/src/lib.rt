@@ -7,10 +7,10 @@ ghost use Rattle.rules.specs.Report.{answerLines};
 ghost use Rattle.rules.specs.Calls.{Reports};
 ghost use Rattle.print.specs.Place.{Puts};
 ghost use Rattle.report.specs.First.{Judges};
-use rules::ReadAnswer;
 use rules::Refusal;
 use rules::ReportAnswer;
 use rules::VerdictAnswer;
+use scan::Scan;
 use table::TABLE_MOST;
 
 // The most bytes that the lines for a set can take.
@@ -31,22 +31,20 @@ fn put_set(out: &mut [u8], at: usize, number: u32, answer: VerdictAnswer) -> usi
     answers::put_answer(out, after_number, answer)
 }
 
-// The first set of a text is judged. The table has room for any set, so the reader refuses by 7 alone, after which nothing is left to read.
+// The first set of a text is judged, or refused by 7, after which nothing is left to read.
 fn judge_first(text: &[u8]) -> First
     ensures { λ r. ⌜ Judges (now (text .entry)) r ⌝ }
 {
     let mut words = [0u32; TABLE_MOST];
-    let mut code: u32 = 0;
-    let mut number: u32 = 0;
-    let rest = reader::read(text, &mut words, &mut code, &mut number);
-    let answer = reader::read_answer(code, number);
-    match answer {
-        ReadAnswer::Set(n) => First {
+    let mut rest = text;
+    let scan = scan::scan_set(text, &mut words, &mut rest);
+    match scan {
+        Scan::Whole(n) => First {
             answer: verdict::verdict(&words[..4 * n as usize]),
             left: rest.len(),
         },
-        ReadAnswer::Refused(r) => First {
-            answer: VerdictAnswer::Refused(r),
+        Scan::Stop(l) => First {
+            answer: VerdictAnswer::Refused(Refusal::BadLine(l)),
             left: 0,
         },
     }

@@ -63,7 +63,6 @@ pub mod Rooms
 -- the report and the program's output
 pub mod Printed
 pub mod Lengths
-pub mod First
 -- the sets drawn from a seed
 pub mod Drawn
 pub mod DrawnFine

@@ -6,7 +6,6 @@ use native.Mathlib.Omega.{arith}
 use mathlib.Core.List.{List}
 use lib.ListN.{length, take, drop, length-append}
 use lib.Seq.{take-at}
-use Rattle.rules.specs.Numbers.{taskMost}
 use Rattle.rules.specs.Text.{Lines, took, stop, readSet, writeSet}
 use Rattle.rules.specs.Calls.{Reads}
 use Rattle.rules.specs.declared.Refusal.the-variants.{TooShort, BadLine}
@@ -43,10 +42,6 @@ ending text table = by-set (readSet text) refl
 -- a set of n tasks was read: its words stand at the start of the table
 pub record Took (text table : List ℕ) (n : ℕ) (rest exit : List ℕ) : Type 0 where
   pub set : readSet text ≡ took (take (4 * n) exit) rest
-  pub words : length (take (4 * n) exit) ≡ 4 * n
-  pub some-task : 1 ≤ n
-  pub most-tasks : n ≤ taskMost
-  pub room : 4 * n ≤ length table
 
 pub took-set : (text table : List ℕ) {answer : ReadAnswer} {rest exit : List ℕ} (n : ℕ) → Reads text table answer rest exit → answer ≡ Set n → Took text table n rest exit
 took-set text table {answer} {rest} {exit} n r e = by-ending (ending text table)
@@ -63,20 +58,10 @@ took-set text table {answer} {rest} {exit} n r e = by-ending (ending text table)
     by-ending (whole ws q k h) =
         let o = reads-one text table _ _ _ _ _ _ r (read-set text table ws q k h) in
         let a : Set n ≡ Set (length ws / 4) = sym e ∙ o .0 in
-        let w = set-back text ws q k in
-        let c = w .words in
-        let p = w .some-task in
-        let m = w .most-tasks in
         let d : n ≡ length ws / 4 = cc in
-        let i : length ws ≡ 4 * n = omega arith in
+        let i : length ws ≡ 4 * n = omega (arith, set-back text ws q k .words) in
         let t : take (4 * n) exit ≡ ws = ap (take (4 * n)) (o .1 .1) ∙ take-at ws (drop (length ws) table) (4 * n) i in
-        record {
-          set = k ∙ ap₂ took (sym t) (sym (o .1 .0));
-          words = ap length t ∙ i;
-          some-task = omega arith;
-          most-tasks = omega arith;
-          room = omega arith;
-        }
+        record { set = k ∙ ap₂ took (sym t) (sym (o .1 .0)) }
 
 -- a set takes at least one byte: what a loop over several sets ends by
 pub shorter : (text ws rest : List ℕ) → readSet text ≡ took ws rest → length rest < length text

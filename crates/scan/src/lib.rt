@@ -1,12 +1,11 @@
 // The first set of a text, line by line, into a table.
-ghost use mathlib.Core.Path.{_≡_};
-ghost use Prim.Native.Nat.{_≤_, _<_};
-ghost use lib.ListN.{length, take};
-ghost use Rattle.rules.specs.Numbers.{tableMost};
-ghost use Rattle.rules.specs.Text.{keyOf, readLine, readLines};
+ghost use Prim.Native.Nat.{_*_, _≤_, _<_};
+ghost use lib.ListN.{length};
+ghost use Rattle.rules.specs.Numbers.{taskMost, tableMost};
+ghost use Rattle.rules.specs.Text.{keyOf, readLine, readLines, readSet};
 ghost use Rattle.rules.specs.Calls.{Reads};
 ghost use Rattle.lines.specs.Line.{Finds};
-ghost use Rattle.scan.specs.Scanned.{scanned};
+ghost use Rattle.scan.specs.Scanned.{Scans};
 use lines::Number;
 use rules::ReadAnswer;
 use rules::Refusal;
@@ -15,9 +14,9 @@ use rules::TASKS_KEY;
 use table::TABLE_MOST;
 use table::TASK_MOST;
 
-// Whether all lines were as due, or the number of the first that was not.
-enum Scan {
-    Whole,
+// What a scan found: so many tasks, or the number of the first line that is not as due.
+pub enum Scan {
+    Whole(u32),
     Stop(u32),
 }
 
@@ -29,17 +28,18 @@ fn task_line<'a>(s: &'a [u8], which: usize, rest: &mut &'a [u8]) -> Number
     lines::read_line(s, &TASK_KEYS[2 * which..2 * which + 2], rest)
 }
 
-// m lines of tasks: their numbers go to the start of words, what is left to rest.
-fn task_lines<'a>(s: &'a [u8], m: usize, words: &mut [u32], rest: &mut &'a [u8]) -> Scan
-    requires { ⌜ (m ≤ length (now words)) × (m ≤ tableMost) ⌝ }
-    ensures { λ r. ⌜ scanned r (take m (now (words .exit))) (now (now (rest .exit))) ≡ readLines m 0 (now (s .entry)) ⌝ }
+// The lines of n tasks: their numbers go to the start of words, what is left to rest.
+fn task_lines<'a>(s: &'a [u8], n: u32, words: &mut [u32], rest: &mut &'a [u8]) -> Scan
+    requires { ⌜ (n ≤ taskMost) × (tableMost ≤ length (now words)) ⌝ }
+    ensures { λ r. ⌜ Scans (readLines (4 * n) 0 (now (s .entry))) r (now (words .exit)) (now (now (rest .exit))) ⌝ }
 {
+    let m = 4 * n as usize;
     let mut t = s;
     let mut k: usize = 0;
     while k < m {
         let mut u = t;
-        let n = task_line(t, k % 4, &mut u);
-        let Number::Value(v) = n else {
+        let number = task_line(t, k % 4, &mut u);
+        let Number::Value(v) = number else {
             return Scan::Stop((2 + k) as u32);
         };
         words[k] = v;
@@ -47,36 +47,48 @@ fn task_lines<'a>(s: &'a [u8], m: usize, words: &mut [u32], rest: &mut &'a [u8])
         k += 1;
     }
     *rest = t;
-    Scan::Whole
+    Scan::Whole(n)
 }
 
-// The first set of a text: its words go to the start of table, the bytes after it to rest.
+// The first set of a text goes straight to words, which has room for any set; the bytes after it go to rest. Where a line is not as due, words
+// may hold some of the set: it is for callers that own the table.
+pub fn scan_set<'a>(text: &'a [u8], words: &mut [u32], rest: &mut &'a [u8]) -> Scan
+    requires { ⌜ tableMost ≤ length (now words) ⌝ }
+    ensures { λ r. ⌜ Scans (readSet (now (text .entry))) r (now (words .exit)) (now (now (rest .exit))) ⌝ }
+{
+    let mut after = text;
+    let first = lines::read_line(text, &TASKS_KEY, &mut after);
+    let Number::Value(n) = first else {
+        return Scan::Stop(1);
+    };
+    if n < 1 {
+        return Scan::Stop(1);
+    }
+    if n > TASK_MOST as u32 {
+        return Scan::Stop(1);
+    }
+    task_lines(after, n, words, rest)
+}
+
+// The first set of a text: its words go to the start of table, the bytes after it to rest. A refusal changes neither, so the set is scanned into
+// a table of its own first.
 pub fn read_set<'a>(text: &'a [u8], table: &mut [u32], rest: &mut &'a [u8]) -> ReadAnswer
     ensures { λ r. ⌜ Reads (now (text .entry)) (now (table .entry)) r (now (now (rest .exit))) (now (table .exit)) ⌝ }
 {
     *rest = text;
-    let mut a = text;
-    let first = lines::read_line(text, &TASKS_KEY, &mut a);
-    let Number::Value(n) = first else {
-        return ReadAnswer::Refused(Refusal::BadLine(1));
-    };
-    if n < 1 {
-        return ReadAnswer::Refused(Refusal::BadLine(1));
-    }
-    if n > TASK_MOST as u32 {
-        return ReadAnswer::Refused(Refusal::BadLine(1));
-    }
-    let m = 4 * n as usize;
     let mut words = [0u32; TABLE_MOST];
-    let mut b = a;
-    let scan = task_lines(a, m, &mut words, &mut b);
-    if let Scan::Stop(l) = scan {
-        return ReadAnswer::Refused(Refusal::BadLine(l));
+    let mut after = text;
+    let scan = scan_set(text, &mut words, &mut after);
+    match scan {
+        Scan::Stop(l) => ReadAnswer::Refused(Refusal::BadLine(l)),
+        Scan::Whole(n) => {
+            let m = 4 * n as usize;
+            if table.len() < m {
+                return ReadAnswer::Refused(Refusal::TooShort);
+            }
+            table::copy_words(&words, m, table);
+            *rest = after;
+            ReadAnswer::Set(n)
+        }
     }
-    if table.len() < m {
-        return ReadAnswer::Refused(Refusal::TooShort);
-    }
-    table::copy_words(&words, m, table);
-    *rest = b;
-    ReadAnswer::Set(n)
 }

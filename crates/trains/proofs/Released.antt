@@ -6,7 +6,7 @@ use native.Mathlib.Omega.{arith}
 use Rattle.rules.specs.Task.{Sound}
 use Rattle.rules.specs.Jobs.{Train}
 use Rattle.rules.specs.declared.Task.{Task}
-use Rattle.rules.proofs.Booleans.{split}
+use Rattle.rules.proofs.Booleans.{impossible, split}
 use Rattle.rules.proofs.Members.{count-before, count-within}
 use Rattle.trains.specs.declared.Release.the-variants.{At, Never}
 use Rattle.trains.specs.Releases.{releasedBefore, dueWithin, Coming, Comes}
@@ -17,12 +17,12 @@ module _ (x : Train) (τ : Task) (q : ℕ) where
   said-at r k =
       record {
         at = λ s e. let same : r ≡ s = cc in subst (λ (y : ℕ). Coming x τ q y) same k;
-        never = λ e. let z : _≡_ {A = ℕ} 0 1 = cc in absurd (omega arith);
+        never = λ e. impossible cc;
       }
 
   -- there is none
   pub said-never : x .count ≤ q → Comes x τ q Never
-  said-never h = record { at = λ s e. let z : _≡_ {A = ℕ} 0 1 = cc in absurd (omega arith); never = λ e. h }
+  said-never h = record { at = λ s e. impossible cc; never = λ e. h }
 
 -- a number of periods is no less than the number
 periods : (q t : ℕ) → 1 ≤ t → q ≤ q * t

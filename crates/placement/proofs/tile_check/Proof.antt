@@ -1,66 +1,50 @@
--- `placement::tile_check` meets its contract: a reading that is refused has the refusal's number, and the table has room for every set, so the set is
--- refused so; of a set that is read, the number is that of the answer on its words.
-use mathlib.Core.Path.{sym, ap, _∙_}
-use Prim.Native.Nat.{_*_, _≤_}
+-- `placement::tile_check` meets its contract: where a line is not as due, the first set is refused so; of a set that is whole, the number is that of
+-- the answer on its words.
+use mathlib.Core.Path.{_≡_, sym, ap, _∙_}
+use Prim.Native.Nat.{ℕ, _*_, _≤_}
 use native.Mathlib.Omega.{arith}
+use mathlib.Core.List.{List}
 use lib.ListN.{length}
 use lib.Seq.{length-take-le}
-use Rattle.rules.specs.Told.{numberTold, readTold, verdictTold}
-use Rattle.rules.specs.declared.ReadAnswer.{ReadAnswer}
+use Rattle.rules.specs.Told.{numberTold, verdictTold}
+use Rattle.rules.specs.Answers.{firstAnswer, checkNumber}
 use Rattle.rules.specs.declared.VerdictAnswer.{VerdictAnswer}
-use Rattle.rules.proofs.Calls.{check-number}
-use Rattle.rules.proofs.Reading.{took-set}
-use Rattle.rules.proofs.First.{set-said, refusal-said}
+use Rattle.rules.proofs.Calls.{first-stops, first-read, check-number}
+use Rattle.scan.proofs.Found.{found, in-words}
 use borrow.Author.Needs.{needs}
 use Rattle.placement.proofs.tile_check.Statement.{statement}
 use Rattle.placement.proofs.tile_check.Tie as tie
 
--- the words of a set that was read lie in the table
-in-words : (c : tie.After-known-told) → 4 * c .before .answer .given .0 .0 ≤ length (c .before .before .before .before .before .read .last .1 .0)
-in-words c =
-    let at-set = c .before in
-    let after-answer = at-set .before .before in
-    let after-read = after-answer .before .before in
-    let took = took-set _ _ _ (after-read .read .ensures .reads) (sym (after-answer .read-answer .ensures) ∙ at-set .answer .given .1) in
-    omega (arith, after-read .read .kept .1 .0, took .room)
+-- the number of the first set's answer
+number-of : (text : List ℕ) (a : VerdictAnswer) (n : ℕ) → n ≡ numberTold (verdictTold a) → firstAnswer text ≡ a → n ≡ checkNumber text
+number-of text a n e said = e ∙ ap (λ (x : VerdictAnswer). numberTold (verdictTold x)) (sym said) ∙ sym (check-number text)
 
-slice-aggregate-read : tie.Need-slice-aggregate-read
-slice-aggregate-read c = search needs
+-- the words of the set are all in the table
+within : (counted : tie.After-known-told) → 4 * counted .before .scan .given .0 .0 ≤ length (counted .before .before .before .before .scan-set .last .1 .0)
+within counted =
+    let scan = counted .before .before .before .before .scan-set in
+    in-words (scan .ensures) _ (counted .before .scan .given .1) (omega (arith, scan .kept .1 .0))
 
-read-requires : tie.Need-read-requires
-read-requires c κs = search needs
+slice-aggregate-scan-set : tie.Need-slice-aggregate-scan-set
+slice-aggregate-scan-set c = search needs
 
-read-answer-requires : tie.Need-read-answer-requires
-read-answer-requires c κs = search needs
+scan-set-requires : tie.Need-scan-set-requires
+scan-set-requires c κs = search needs
 
-enum-known-answer : tie.Need-enum-known-answer
-enum-known-answer c = search needs
+enum-known-scan : tie.Need-enum-known-scan
+enum-known-scan c = search needs
 
-enum-told : tie.Need-enum-told
-enum-told c = search needs
+cast-words : tie.Need-cast-words
+cast-words c = search needs
 
-returns : tie.Need-returns
-returns c =
-    let after-answer = c .before .before in
-    let after-read = after-answer .before .before in
-    let read = after-read .read .ensures in
-    let refused = sym (after-answer .read-answer .ensures) ∙ c .enum-told .given .1 in
-    let text = after-read .before .before .before .before .before .args .text .now in
-    read .code-is
-    ∙ ap (λ (a : ReadAnswer). numberTold (readTold a)) (sym (read .reads .says) ∙ refused)
-    ∙ sym (check-number text ∙ ap (λ (a : VerdictAnswer). numberTold (verdictTold a)) (refusal-said _ _ (read .reads) _ (omega arith) refused))
-
-cast-m : tie.Need-cast-m
-cast-m c = search needs
-
-mul-m : tie.Need-mul-m
-mul-m c = search needs
+mul-words : tie.Need-mul-words
+mul-words c = search needs
 
 array-share-prefix-words : tie.Need-array-share-prefix-words
-array-share-prefix-words c = in-words c
+array-share-prefix-words c = within c
 
 slice-aggregate-verdict : tie.Need-slice-aggregate-verdict
-slice-aggregate-verdict c = sym (length-take-le _ _ (in-words (c .before)))
+slice-aggregate-verdict c = sym (length-take-le _ _ (within (c .before)))
 
 verdict-requires : tie.Need-verdict-requires
 verdict-requires c κs = search needs
@@ -68,32 +52,39 @@ verdict-requires c κs = search needs
 answer-number-requires : tie.Need-answer-number-requires
 answer-number-requires c κs = search needs
 
-returns-2 : tie.Need-returns-2
-returns-2 c =
+enum-known-scan-2 : tie.Need-enum-known-scan-2
+enum-known-scan-2 c = search needs
+
+answer-number-requires-2 : tie.Need-answer-number-requires-2
+answer-number-requires-2 c κs = search needs
+
+returns : tie.Need-returns
+returns c =
     let after-verdict = c .before in
     let at-set = after-verdict .before .before .before in
-    let after-answer = at-set .before .before in
-    let after-read = after-answer .before .before in
-    let text = after-read .before .before .before .before .before .args .text .now in
-    let said = set-said _ _ (after-read .read .ensures .reads) _ (sym (after-answer .read-answer .ensures) ∙ at-set .answer .given .1) in
-    c .answer-number .ensures
-    ∙ ap (λ (a : VerdictAnswer). numberTold (verdictTold a)) (after-verdict .verdict .ensures .0 ∙ sym said)
-    ∙ sym (check-number text)
+    let scan = at-set .before .before .before .scan-set in
+    number-of _ _ _ (c .answer-number .ensures) (first-read _ _ _ (found (scan .ensures) _ (at-set .scan .given .1)) ∙ sym (after-verdict .verdict .ensures .0))
+
+returns-2 : tie.Need-returns-2
+returns-2 c =
+    let at-stop = c .before .before in
+    let scan = at-stop .before .before .before .scan-set in
+    number-of _ _ _ (c .answer-number2 .ensures) (first-stops _ _ (found (scan .ensures) _ (at-stop .scan2 .given .1)))
 
 pub tile-check-spec : {M : Type 1} → statement M
 tile-check-spec =
     tie.close
     (tie.spec
-    slice-aggregate-read
-    read-requires
-    read-answer-requires
-    enum-known-answer
-    enum-told
-    returns
-    cast-m
-    mul-m
+    slice-aggregate-scan-set
+    scan-set-requires
+    enum-known-scan
+    cast-words
+    mul-words
     array-share-prefix-words
     slice-aggregate-verdict
     verdict-requires
     answer-number-requires
+    enum-known-scan-2
+    answer-number-requires-2
+    returns
     returns-2)

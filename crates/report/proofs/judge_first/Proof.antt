@@ -1,36 +1,31 @@
--- `report::judge_first` meets its contract: a set that was read is judged by its words, and the reader's rest is left; the table has room for
--- every set, so a refusal is that of a line, and nothing is left.
+-- `report::judge_first` meets its contract: a set that is whole is judged by its words, and the bytes after it are left; where a line is not as due,
+-- the set is refused so, and nothing is left.
 use mathlib.Core.Path.{sym, ap, _∙_}
 use Prim.Native.Nat.{_*_, _≤_}
 use native.Mathlib.Omega.{arith}
 use lib.ListN.{length}
 use lib.Seq.{length-take-le}
-use Rattle.rules.proofs.Reading.{took-set}
-use Rattle.rules.proofs.First.{set-said, set-left, refusal-said, refusal-left}
+use Rattle.rules.proofs.Calls.{first-stops, first-read}
+use Rattle.rules.proofs.Printed.{rest-stops, rest-read}
+use Rattle.scan.proofs.Found.{found, in-words}
 use borrow.Author.Needs.{needs}
 use Rattle.report.proofs.judge_first.Statement.{statement}
 use Rattle.report.proofs.judge_first.Tie as tie
 
--- the words of a set that was read lie in the table
-in-table : (c : tie.After-known-told) → 4 * c .before .answer .given .0 .0 ≤ length (c .before .before .before .before .before .read .last .1 .0)
-in-table c =
-    let at-set = c .before in
-    let after-answer = at-set .before .before in
-    let after-read = after-answer .before .before in
-    let took = took-set _ _ _ (after-read .read .ensures .reads) (sym (after-answer .read-answer .ensures) ∙ at-set .answer .given .1) in
-    omega (arith, after-read .read .kept .1 .0, took .room)
+-- the words of the set are all in the table
+within : (counted : tie.After-known-told) → 4 * counted .before .scan .given .0 .0 ≤ length (counted .before .before .before .before .scan-set .last .1 .0)
+within counted =
+    let scan = counted .before .before .before .before .scan-set in
+    in-words (scan .ensures) _ (counted .before .scan .given .1) (omega (arith, scan .kept .1 .0))
 
-slice-aggregate-read : tie.Need-slice-aggregate-read
-slice-aggregate-read c = search needs
+slice-aggregate-scan-set : tie.Need-slice-aggregate-scan-set
+slice-aggregate-scan-set c = search needs
 
-read-requires : tie.Need-read-requires
-read-requires c κs = search needs
+scan-set-requires : tie.Need-scan-set-requires
+scan-set-requires c κs = search needs
 
-read-answer-requires : tie.Need-read-answer-requires
-read-answer-requires c κs = search needs
-
-enum-known-answer : tie.Need-enum-known-answer
-enum-known-answer c = search needs
+enum-known-scan : tie.Need-enum-known-scan
+enum-known-scan c = search needs
 
 cast-words : tie.Need-cast-words
 cast-words c = search needs
@@ -39,46 +34,41 @@ mul-words : tie.Need-mul-words
 mul-words c = search needs
 
 array-share-prefix-words : tie.Need-array-share-prefix-words
-array-share-prefix-words c = in-table c
+array-share-prefix-words c = within c
 
 slice-aggregate-verdict : tie.Need-slice-aggregate-verdict
-slice-aggregate-verdict c = sym (length-take-le _ _ (in-table (c .before)))
+slice-aggregate-verdict c = sym (length-take-le _ _ (within (c .before)))
 
 verdict-requires : tie.Need-verdict-requires
 verdict-requires c κs = search needs
 
-enum-known-answer-2 : tie.Need-enum-known-answer-2
-enum-known-answer-2 c = search needs
+enum-known-scan-2 : tie.Need-enum-known-scan-2
+enum-known-scan-2 c = search needs
 
 returns : tie.Need-returns
 returns c =
     let at-set = c .before .before .before in
-    let after-answer = at-set .before .before in
-    let read = after-answer .before .before .read .ensures .reads in
-    let answer = sym (after-answer .read-answer .ensures) ∙ at-set .answer .given .1 in
-    record { says = c .verdict .ensures .0 ∙ sym (set-said _ _ read _ answer); leaves = ap length (sym (set-left _ _ read _ answer)) }
+    let set = found (at-set .before .before .before .scan-set .ensures) _ (at-set .scan .given .1) in
+    record { says = c .verdict .ensures .0 ∙ sym (first-read _ _ _ set); leaves = ap length (sym (rest-read _ _ _ set)) }
 
 returns-2 : tie.Need-returns-2
 returns-2 c =
-    let at-refusal = c .before in
-    let after-answer = at-refusal .before .before in
-    let read = after-answer .before .before .read .ensures .reads in
-    let answer = sym (after-answer .read-answer .ensures) ∙ at-refusal .answer2 .given .1 in
-    record { says = sym (refusal-said _ _ read _ (omega arith) answer); leaves = ap length (sym (refusal-left _ _ read _ (omega arith) answer)) }
+    let at-stop = c .before in
+    let line = found (at-stop .before .before .before .scan-set .ensures) _ (at-stop .scan2 .given .1) in
+    record { says = sym (first-stops _ _ line); leaves = ap length (sym (rest-stops _ _ line)) }
 
 pub judge-first-spec : {M : Type 1} → statement M
 judge-first-spec =
     tie.close
     (tie.spec
-    slice-aggregate-read
-    read-requires
-    read-answer-requires
-    enum-known-answer
+    slice-aggregate-scan-set
+    scan-set-requires
+    enum-known-scan
     cast-words
     mul-words
     array-share-prefix-words
     slice-aggregate-verdict
     verdict-requires
-    enum-known-answer-2
+    enum-known-scan-2
     returns
     returns-2)

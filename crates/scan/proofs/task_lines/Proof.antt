@@ -1,7 +1,7 @@
 -- `scan::task_lines` meets its contract: the words stored, put ahead of what reading the lines that are left gives, are at each turn what
 -- reading all of them gives.
 use mathlib.Core.Path.{_≡_, refl, sym, ap, _∙_}
-use Prim.Native.Nat.{ℕ, _-_, _≤_}
+use Prim.Native.Nat.{ℕ, _-_, _*_, _≤_}
 use native.Mathlib.Omega.{arith}
 use lib.ListN.{length, take, length-set}
 use Rattle.rules.specs.Text.{readLines}
@@ -13,31 +13,34 @@ use Rattle.scan.proofs.task_lines.Statement.{statement}
 use Rattle.scan.proofs.task_lines.Tie as tie
 
 abbrev Inv-loop : tie.InvT-loop
-Inv-loop s m words₀ rest t₀ k₀ words t k = (k ≤ m) × ((length words ≡ length words₀) × (aheads (take k words) (readLines (m - k) k t) ≡ readLines m 0 s))
+Inv-loop s n words₀ rest m t₀ k₀ words t k = (k ≤ m) × ((length words ≡ length words₀) × (aheads (take k words) (readLines (m - k) k t) ≡ readLines m 0 s))
 
 abbrev μ-loop : tie.MeasureT-loop
-μ-loop s m words₀ rest t₀ k₀ words t k = m - k
+μ-loop s n words₀ rest m t₀ k₀ words t k = m - k
+
+mul-m : tie.Need-mul-m Inv-loop μ-loop
+mul-m c = search needs
 
 loop-holds : tie.Need-loop-holds Inv-loop μ-loop
 loop-holds c =
     let args = c .before .before .args in
-    let e : args .m - 0 ≡ args .m = omega arith in
-    (omega arith, (refl, aheads-none _ ∙ ap (λ (n : ℕ). readLines n 0 (args .s .now)) e))
+    let e : 4 * args .n - 0 ≡ 4 * args .n = omega arith in
+    (omega arith, (refl, aheads-none _ ∙ ap (λ (m : ℕ). readLines m 0 (args .s .now)) e))
 
 task-line-requires : tie.Need-task-line-requires Inv-loop μ-loop
 task-line-requires c κs = search needs
 
-enum-known-n : tie.Need-enum-known-n Inv-loop μ-loop
-enum-known-n c = search needs
+enum-known-number : tie.Need-enum-known-number Inv-loop μ-loop
+enum-known-number c = search needs
 
 enum-told : tie.Need-enum-told Inv-loop μ-loop
 enum-told c = search needs
 
-add-t13 : tie.Need-add-t13 Inv-loop μ-loop
-add-t13 c = search needs
+add-t15 : tie.Need-add-t15 Inv-loop μ-loop
+add-t15 c = search needs
 
-cast-t14 : tie.Need-cast-t14 Inv-loop μ-loop
-cast-t14 c = search needs
+cast-t16 : tie.Need-cast-t16 Inv-loop μ-loop
+cast-t16 c = search needs
 
 same-length : tie.Need-same-length Inv-loop μ-loop
 same-length c = search needs
@@ -47,8 +50,11 @@ returns : tie.Need-returns Inv-loop μ-loop
 returns c =
     let at-loop = c .before .before .before .before .before in
     let line = c .before .before .task-line in
-    sym (lines-wrong _ _ (at-loop .loop .words) (at-loop .loop .t .now) (omega arith) (sym (line .ensures .says) ∙ ap (λ (n : Number). seen n (line .last .1 .1 .0 .now)) (c .enum-told .given .1)))
-    ∙ at-loop .loop .inv .1 .1
+    record {
+      says = sym (lines-wrong (4 * at-loop .before .before .before .args .n) (at-loop .loop .k) (at-loop .loop .words) (at-loop .loop .t .now) (omega arith) (sym (line .ensures .says) ∙ ap (λ (x : Number). seen x (line .last .1 .1 .0 .now)) (c .enum-told .given .1)))
+          ∙ at-loop .loop .inv .1 .1;
+      few = tt;
+    }
 
 mul-words : tie.Need-mul-words Inv-loop μ-loop
 mul-words c = search needs
@@ -66,12 +72,12 @@ loop-again : tie.Need-loop-again Inv-loop μ-loop
 loop-again c =
     let at-loop = c .before .before .before .before .before .before in
     let line = c .before .before .before .task-line in
-    let number = c .before .n .given in
-    let m = at-loop .before .before .before .args .m in (
+    let number = c .before .number .given in
+    let m = 4 * at-loop .before .before .before .args .n in (
       omega arith,
       (
         simp length-set (at-loop .loop .inv .1 .0),
-        lines-more m (at-loop .loop .k) (at-loop .loop .words) (at-loop .loop .t .now) (omega arith) (number .0 .0) (line .last .1 .1 .0 .now) (omega arith) (sym (line .ensures .says) ∙ ap (λ (n : Number). seen n (line .last .1 .1 .0 .now)) (number .1))
+        lines-more m (at-loop .loop .k) (at-loop .loop .words) (at-loop .loop .t .now) (omega arith) (number .0 .0) (line .last .1 .1 .0 .now) (omega arith) (sym (line .ensures .says) ∙ ap (λ (x : Number). seen x (line .last .1 .1 .0 .now)) (number .1))
             ∙ at-loop .loop .inv .1 .1,
       ),
     )
@@ -83,9 +89,13 @@ same-length-2 c = search needs
 returns-2 : tie.Need-returns-2 Inv-loop μ-loop
 returns-2 c =
     let at-loop = c .before in
-    let m = at-loop .before .before .before .args .m in
+    let at-start = at-loop .before .before .before in
+    let m = 4 * at-start .args .n in
     let e : at-loop .loop .k ≡ m = omega arith in
-    sym (lines-done m (at-loop .loop .k) (at-loop .loop .words) (at-loop .loop .t .now) e) ∙ at-loop .loop .inv .1 .1
+    record {
+      says = sym (lines-done m (at-loop .loop .k) (at-loop .loop .words) (at-loop .loop .t .now) e) ∙ at-loop .loop .inv .1 .1;
+      few = at-start .pre .0;
+    }
 
 pub task-lines-spec : {M : Type 1} → statement M
 task-lines-spec =
@@ -93,12 +103,13 @@ task-lines-spec =
     (tie.spec
     Inv-loop
     μ-loop
+    mul-m
     loop-holds
     task-line-requires
-    enum-known-n
+    enum-known-number
     enum-told
-    add-t13
-    cast-t14
+    add-t15
+    cast-t16
     same-length
     returns
     mul-words

@@ -6,9 +6,9 @@
  *                    which takes more ends the program
  *
  * A call is made in a context of its own, on memory that was painted: what is no longer paint was
- * taken. There are two paints, because a call could write the one. What a call of an empty function
- * takes is taken off, for it belongs to the context and to the C function that makes the call, and
- * another compiler or C library may need another number there.
+ * taken, whether the stack pointer went there or not. There are two paints, because a call could
+ * write the one. What a call of an empty function takes is taken off, for it belongs to the context
+ * and to the C function that makes the call, and is another with another compiler or C library.
  */
 #define _GNU_SOURCE
 #include <ctype.h>
@@ -76,9 +76,12 @@ static void write_text(void)
 {
     text_length = (size_t)sprintf((char *)text, "tasks=%zu\n", words / 4);
     for (size_t word = 0; word < words; word++)
-        text_length += (size_t)sprintf((char *)text + text_length, "%c=%" PRIu32 "\n",
-                                       "cdtr"[word % 4], table[word]);
+        text_length += (size_t)sprintf((char *)text + text_length, "%c=%u\n", "cdtr"[word % 4],
+                                       table[word]);
 }
+
+#define PLAIN_RECORD "%u,%u,%u,%u\r\n"
+#define QUOTED_RECORD "\"a \"\"b\"\", c\",\"%u\",\"%u\",\"%u\",\"%u\"\r\n"
 
 static void write_sheet(int quoted)
 {
@@ -86,8 +89,7 @@ static void write_sheet(int quoted)
                                    quoted ? "kernel," : "");
     for (uint32_t *task = table; task < table + words; task += 4)
         sheet_length += (size_t)sprintf((char *)sheet + sheet_length,
-                                        quoted ? "\"a \"\"b\"\", c\",\"%u\",\"%u\",\"%u\",\"%u\"\r\n"
-                                               : "%u,%u,%u,%u\r\n",
+                                        quoted ? QUOTED_RECORD : PLAIN_RECORD,
                                         task[0], task[1], task[2], task[3]);
 }
 
@@ -256,12 +258,21 @@ static size_t around; /* what a call of an empty function takes */
 static void map_stack(void)
 {
     size_t page = (size_t)sysconf(_SC_PAGESIZE);
-    uint8_t *all = mmap(NULL, page + MUCH, PROT_READ | PROT_WRITE, MAP_PRIVATE | MAP_ANONYMOUS, -1, 0);
+    int how = PROT_READ | PROT_WRITE, kind = MAP_PRIVATE | MAP_ANONYMOUS;
+    uint8_t *all = mmap(NULL, page + MUCH, how, kind, -1, 0);
     if (all == MAP_FAILED || mprotect(all, page, PROT_NONE) != 0) {
         perror("stack: no memory");
         exit(2);
     }
     low = all + page;
+}
+
+static void wrong(const struct call *call, const struct input *input)
+{
+    fprintf(stderr, "stack: %s, input %td: wanted %u with %" PRIu64 ", %" PRIu64, call->name,
+            input - call->inputs, input->wanted, input->carries[0], input->carries[1]);
+    fprintf(stderr, ", got %u with %" PRIu64 ", %" PRIu64 "\n", answer, out[0], out[1]);
+    exit(1);
 }
 
 /* Makes the call with this input on a stack of so many bytes, and holds what comes back to it. */
@@ -275,12 +286,8 @@ static void make_on(size_t bytes, const struct call *call, const struct input *i
     there.uc_link = &here;
     makecontext(&there, call->make, 0);
     swapcontext(&here, &there);
-    if (answer == input->wanted && memcmp(out, input->carries, sizeof input->carries) == 0)
-        return;
-    printf("\nstack: %s, input %td: wanted %" PRIu32 " with %" PRIu64 ", %" PRIu64, call->name,
-           input - call->inputs, input->wanted, input->carries[0], input->carries[1]);
-    printf(", got %" PRIu32 " with %" PRIu64 ", %" PRIu64 "\n", answer, out[0], out[1]);
-    exit(1);
+    if (answer != input->wanted || memcmp(out, input->carries, sizeof input->carries) != 0)
+        wrong(call, input);
 }
 
 /* How many bytes from the top down to the last one that is no longer paint. */
@@ -335,17 +342,17 @@ static void stop_if_grown(const struct call *call, size_t bytes)
 /* The name and the number are printed first: if the call ends the program, they stand last. */
 static void hold(const struct call *call)
 {
-    size_t bytes, above = (around + 15) / 16 * 16;
+    size_t bytes, above = (around + 15) / 16 * 16; /* a stack begins at a multiple of 16 */
     printf("%s takes ", call->name);
     bytes = most_of(call) - around;
     print_bytes(bytes);
     printf(" bytes of stack");
     stop_if_grown(call, bytes);
-    printf("; made with ");
+    printf("; it gets ");
     print_bytes(2 * call->size);
+    printf("\n");
     for (size_t input = 0; input < call->count; input++)
         make_on(above + 2 * call->size, call, &call->inputs[input]);
-    printf(" too\n");
 }
 
 int main(int count, char **arguments)
@@ -360,5 +367,7 @@ int main(int count, char **arguments)
     around = most_of(&empty);
     for (size_t call = 0; call < COUNT(calls); call++)
         (small ? hold : show)(&calls[call]);
+    if (small)
+        printf("stack: %zu calls as they should be, with twice what they took\n", COUNT(calls));
     return 0;
 }

@@ -32,7 +32,7 @@ pub fn for_schedule() -> Vec<(Set, Pace)> {
     ]
 }
 
-/// Most of the time goes into the look at the lengths and, where there are many rows, into those.
+/// Each fails by one tick and late, so that there are many rows.
 pub fn for_pattern() -> Vec<Set> {
     let mut many = vec![[1, 6400, 62, 0]; 62];
     many.extend([[6339, 65535, 65535, 0], [1, 50000, 65535, 0]]);

@@ -46,8 +46,8 @@ static uint64_t rows[ROWS], out[4];
 static size_t words, text_length, sheet_length, room;
 static uint32_t seed, number, answer;
 
-/* What stands in the text and in the sheet: as the writers have it; with a letter in the last number;
- * with every number of the sheet in quotes, after a column that has quotes and a comma in it. */
+/* What stands in the text and in the sheet: as the writers have it; with a letter in the last
+ * number; with the sheet's numbers in quotes, after a column that has quotes and a comma in it. */
 enum form { PLAIN, SPOILT, QUOTED };
 
 /* One input with its answer. A task is C, D, T, R. */
@@ -112,7 +112,7 @@ static void prepare(const struct input *input)
     seed = input->seed;
     number = input->number;
     room = input->room;
-    answer = 0;
+    answer = UINT32_MAX;
     memset(out, 0, sizeof out);
 }
 
@@ -132,11 +132,11 @@ static void verdict(void) { answer = probe_verdict(table, words, out, 4); }
 static void reader(void) { answer = probe_read(text, text_length, filled, room, out, 4); }
 static void writer(void) { answer = probe_write(table, words, made, room, out, 4); }
 static void generator(void) { answer = probe_generate(seed, number, filled, room, out, 4); }
-static void sheet_reader(void) { answer = probe_sheet_read(sheet, sheet_length, filled, room, out, 4); }
-static void sheet_writer(void) { answer = probe_sheet_write(table, words, made, room, out, 4); }
+static void sheet_read(void) { answer = probe_sheet_read(sheet, sheet_length, filled, room, out, 4); }
+static void sheet_write(void) { answer = probe_sheet_write(table, words, made, room, out, 4); }
 static void check(void) { answer = tile_check(text, text_length); }
 
-/* The largest numbers that there are; and one that is out of its range, in the last word. */
+/* Five digits in each number; and a number that is out of its range, in the last word. */
 #define LONG {54321, 65535, 12345, 10000}
 #define BAD {1, 1, 1, 65536}
 
@@ -242,8 +242,8 @@ static const struct call calls[] = {
     {"reader", reader, 1304, for_reader, COUNT(for_reader)},
     {"writer", writer, 56, for_writer, COUNT(for_writer)},
     {"generator", generator, 48, for_generator, COUNT(for_generator)},
-    {"sheet reader", sheet_reader, 1168, for_sheet_reader, COUNT(for_sheet_reader)},
-    {"sheet writer", sheet_writer, 48, for_sheet_writer, COUNT(for_sheet_writer)},
+    {"sheet reader", sheet_read, 1168, for_sheet_reader, COUNT(for_sheet_reader)},
+    {"sheet writer", sheet_write, 48, for_sheet_writer, COUNT(for_sheet_writer)},
     {"tile_check", check, 2280, for_check, COUNT(for_check)},
 };
 
@@ -251,7 +251,7 @@ static const struct call calls[] = {
 
 #define MUCH ((size_t)64 * 1024)
 
-static const uint8_t paints[] = {0x5a, 0xa5};
+static const uint8_t paints[2] = {0x5a, 0xa5};
 static uint8_t *low;  /* where the stack ends: the page below can't be touched */
 static size_t around; /* what a call of an empty function takes */
 
@@ -305,8 +305,8 @@ static size_t painted(const struct call *call, const struct input *input, uint8_
 static size_t most_of(const struct call *call)
 {
     size_t most = 0;
-    for (size_t run = 0; run < COUNT(paints) * call->count; run++) {
-        size_t bytes = painted(call, &call->inputs[run / COUNT(paints)], paints[run % COUNT(paints)]);
+    for (size_t run = 0; run < 2 * call->count; run++) {
+        size_t bytes = painted(call, &call->inputs[run / 2], paints[run % 2]);
         most = bytes > most ? bytes : most;
     }
     return most;

@@ -43,6 +43,12 @@ fn all(pace_for: fn(Pace) -> Pace) {
     for (set, pace) in sets::for_schedule() {
         report::line(&schedule(&set, pace_for(pace), &mut rows));
     }
+    for set in sets::for_pattern() {
+        report::line(&pattern(&set, many, &mut rows));
+    }
+    for set in sets::for_check() {
+        report::line(&check(&set, many));
+    }
     for set in sets::for_text() {
         report::line(&reader(&set, many));
         report::line(&writer(&set, many));
@@ -77,6 +83,30 @@ fn schedule(set: &Set, pace: Pace, rows: &mut Vec<u64>) -> Line {
     let clear = |rows: &mut Vec<u64>| rows[..words].fill(0);
     let times = measure(pace, rows, clear, ours, theirs);
     Line { call: "schedule", set: set.name, bytes: None, times }
+}
+
+fn pattern(set: &Set, pace: Pace, rows: &mut Vec<u64>) -> Line {
+    let table = &set.table;
+    let ours = |rows: &mut Vec<u64>| {
+        let mut out = [0; LEAST_OUT];
+        boundary::pattern(black_box(table), rows, &mut out);
+        out[0]
+    };
+    let theirs = |rows: &mut Vec<u64>| {
+        oracle::pattern(black_box(table), rows).map_or(0, |count| count as u64)
+    };
+    let words = oracle::pattern::words_needed(table).expect("a set that misses");
+    let clear = |rows: &mut Vec<u64>| rows[..words].fill(0);
+    let times = measure(pace, rows, clear, ours, theirs);
+    Line { call: "pattern", set: set.name, bytes: None, times }
+}
+
+fn check(set: &Set, pace: Pace) -> Line {
+    let text = oracle::writer::set_text(&set.table);
+    let ours = |_: &mut ()| u64::from(boundary::tile_check(black_box(&text)));
+    let theirs = |_: &mut ()| u64::from(oracle::tile_check(black_box(&text)));
+    let times = measure(pace, &mut (), |_| (), ours, theirs);
+    Line { call: "tile_check", set: set.name, bytes: Some(text.len()), times }
 }
 
 fn reader(set: &Set, pace: Pace) -> Line {

@@ -32,6 +32,30 @@ pub fn for_schedule() -> Vec<(Set, Pace)> {
     ]
 }
 
+/// Each fails by one tick and late, so that there are many rows.
+pub fn for_pattern() -> Vec<Set> {
+    let mut many = vec![[1, 6400, 62, 0]; 62];
+    many.extend([[6339, 65535, 65535, 0], [1, 50000, 65535, 0]]);
+    vec![
+        set("65,536 rows, no blocker", &[[1, 1, 1, 0], [1, 65535, 65535, 0]]),
+        set(
+            "10,003 rows, a blocker",
+            &[[1, 30000, 1, 0], [1, 40000, 65535, 0], [30000, 65535, 65535, 0]],
+        ),
+        set("64 tasks, 43,712 rows, a blocker", &many),
+    ]
+}
+
+/// Judged at once, so that reading is most of it.
+pub fn for_check() -> Vec<Set> {
+    let mut refused = [[54321, 65535, 12345, 10000]; 64];
+    refused[0][0] = 99999;
+    vec![
+        set("64 tasks, five digits, refused", &refused),
+        set("1 task, misses at 1", &[[2, 1, 1, 0]]),
+    ]
+}
+
 pub fn for_text() -> Vec<Set> {
     vec![
         set("64 tasks, five digits", &[[54321, 65535, 12345, 10000]; 64]),

@@ -1,5 +1,5 @@
-//! The probe's calls. A slice crosses as a pointer and a length; each call returns a number and
-//! puts what the answer carries to the start of `out`.
+//! The probe's calls and the one for C. A slice crosses as a pointer and a length; each call returns
+//! a number, and the probe's put what the answer carries to the start of `out`.
 
 /// The shortest `out` that is served, and the answer to a shorter one.
 pub const LEAST_OUT: usize = 4;
@@ -27,6 +27,8 @@ extern "C" {
                         out: *mut u64, out_length: usize) -> u32;
     fn probe_sheet_write(table: *const u32, table_length: usize, text: *mut u8, text_length: usize,
                          out: *mut u64, out_length: usize) -> u32;
+    #[link_name = "tile_check"]
+    fn placement_check(text: *const u8, text_length: usize) -> u32;
 }
 
 // Each wrapper lends whole slices, so every pointer is valid for its length during the call.
@@ -123,4 +125,8 @@ pub fn sheet_write(table: &[u32], text: &mut [u8], out: &mut [u64]) -> u32 {
             out.len(),
         )
     }
+}
+
+pub fn tile_check(text: &[u8]) -> u32 {
+    unsafe { placement_check(text.as_ptr(), text.len()) }
 }

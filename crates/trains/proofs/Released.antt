@@ -9,7 +9,7 @@ use Rattle.rules.specs.declared.Task.{Task}
 use Rattle.rules.proofs.Booleans.{impossible, split}
 use Rattle.rules.proofs.Members.{count-before, count-within}
 use Rattle.trains.specs.declared.Release.the-variants.{At, Never}
-use Rattle.trains.specs.Releases.{releasedBefore, dueWithin, Coming, Comes}
+use Rattle.trains.specs.Releases.{releasedBefore, dueWithin, once, Coming, Comes}
 
 module _ (x : Train) (τ : Task) (q : ℕ) where
   -- the job comes
@@ -59,12 +59,9 @@ module _ (τ : Task) (sound : Sound τ) (q : ℕ) where
     within-never h =
         said-never (dueWithin first L τ) τ q (split (dueWithin first L τ .count) q (λ g. g) (λ g. absurd (omega (arith, count-within L q τ (sound .T-pos) .0 g))))
 
--- a train of one job, from 0 on
 module _ (τ : Task) (q : ℕ) where
-  pub once-at : q ≡ 0 → Comes (record { first = 0; count = 1 }) τ q (At 0)
-  once-at e =
-      said-at (record { first = 0; count = 1 }) τ q 0
-      (record { live = omega arith; when = omega (arith, ap (λ (x : ℕ). x * τ .T) e, zero-mul (τ .T)); few = omega arith; early = omega arith })
+  pub once-at : q ≡ 0 → Comes once τ q (At 0)
+  once-at e = said-at once τ q 0 (record { live = omega arith; when = omega (arith, ap (λ (x : ℕ). x * τ .T) e, zero-mul (τ .T)); few = omega arith; early = omega arith })
 
-  pub once-never : 1 ≤ q → Comes (record { first = 0; count = 1 }) τ q Never
-  once-never h = said-never (record { first = 0; count = 1 }) τ q h
+  pub once-never : 1 ≤ q → Comes once τ q Never
+  once-never h = said-never once τ q h

@@ -15,6 +15,10 @@ releasedBefore Z τ = record { first = τ .R; count = countBefore Z τ }
 abbrev pub dueWithin : ℕ → ℕ → Task → Train
 dueWithin r L τ = record { first = r; count = countWithin L τ }
 
+-- the train of one job, at 0
+abbrev pub once : Train
+once = record { first = 0; count = 1 }
+
 -- the train has job q, and it is released at r; both numbers are small
 pub record Coming (x : Train) (τ : Task) (q r : ℕ) : Type 0 where
   pub live : q < x .count

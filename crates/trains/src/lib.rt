@@ -4,7 +4,7 @@ ghost use Prim.Native.Nat.{_-_, _*_, _^_, _<_};
 ghost use Rattle.rules.specs.Task.{Sound};
 ghost use Rattle.rules.specs.Demand.{countWithin};
 ghost use Rattle.rules.specs.Jobs.{countBefore, namedTrain, planTrain};
-ghost use Rattle.trains.specs.Releases.{Comes, releasedBefore, dueWithin};
+ghost use Rattle.trains.specs.Releases.{Comes, releasedBefore, dueWithin, once};
 use arith::wide;
 use rules::Blocker;
 use rules::Plan;
@@ -98,6 +98,17 @@ fn release_within(task: Task, length: u32, first: u32, q: u32) -> Release
     }
 }
 
+// When job q of a task that comes once, at 0, is released.
+fn release_once(task: Task, q: u32) -> Release
+    ensures { λ r. ⌜ Comes once task q r ⌝ }
+{
+    if q == 0 {
+        Release::At(0)
+    } else {
+        Release::Never
+    }
+}
+
 // When job q of task k is released in the pattern that a length names: a blocker comes once, at 0, and the others from 1 on; without one all come
 // from 0 on.
 fn named_release(length: u32, blocker: Blocker, k: usize, task: Task, q: u32) -> Release
@@ -107,14 +118,10 @@ fn named_release(length: u32, blocker: Blocker, k: usize, task: Task, q: u32) ->
     let Blocker::Task(b) = blocker else {
         return release_within(task, length, 0, q);
     };
-    if k != b as usize {
-        return release_within(task, length, 1, q);
+    if k == b as usize {
+        return release_once(task, q);
     }
-    if q == 0 {
-        Release::At(0)
-    } else {
-        Release::Never
-    }
+    release_within(task, length, 1, q)
 }
 
 // When job q of task k is released under a plan, if its train has that job.

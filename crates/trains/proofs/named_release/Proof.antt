@@ -1,11 +1,6 @@
 -- `trains::named_release` says when a job of the named pattern is released: by cases on the blocker, as the definition goes.
-use mathlib.Core.Path.{sym, subst}
-use native.Mathlib.Omega.{arith}
 use borrow.Author.Needs.{needs}
-use Rattle.rules.specs.Jobs.{Train}
 use Rattle.rules.proofs.TaskTrains.{nobody-train, blocker-train, other-train}
-use Rattle.trains.specs.Releases.{Comes}
-use Rattle.trains.proofs.Released.{once-at, once-never}
 use Rattle.trains.proofs.named_release.Statement.{statement}
 use Rattle.trains.proofs.named_release.Tie as tie
 
@@ -27,26 +22,23 @@ returns c =
 cast-if1 : tie.Need-cast-if1
 cast-if1 c = search needs
 
-release-within-requires-2 : tie.Need-release-within-requires-2
-release-within-requires-2 c κs = search needs
+release-once-requires : tie.Need-release-once-requires
+release-once-requires c κs = search needs
 
--- another task than the blocker
+-- the blocker
 returns-2 : tie.Need-returns-2
 returns-2 c =
     let at-start = c .before .before .before .before .before .args in
-    rw (other-train (at-start .length) (at-start .k) (at-start .task) (at-start .blocker) _ (c .before .before .before .blocker .given .1) (c .before .if1 .taken)) (c .release-within2 .ensures)
+    rw (blocker-train (at-start .length) (at-start .k) (at-start .task) (at-start .blocker) _ (c .before .before .before .blocker .given .1) (c .before .if1 .taken)) (c .release-once .ensures)
 
--- the blocker's one job
+release-within-requires-2 : tie.Need-release-within-requires-2
+release-within-requires-2 c κs = search needs
+
+-- another task
 returns-3 : tie.Need-returns-3
 returns-3 c =
     let at-start = c .before .before .before .before .before .args in
-    rw (blocker-train (at-start .length) (at-start .k) (at-start .task) (at-start .blocker) _ (c .before .before .before .blocker .given .1) (c .before .if1 .left)) (once-at (at-start .task) (at-start .q) (c .if2 .taken))
-
--- it has no other
-returns-4 : tie.Need-returns-4
-returns-4 c =
-    let at-start = c .before .before .before .before .before .args in
-    rw (blocker-train (at-start .length) (at-start .k) (at-start .task) (at-start .blocker) _ (c .before .before .before .blocker .given .1) (c .before .if1 .left)) (once-never (at-start .task) (at-start .q) (omega arith))
+    rw (other-train (at-start .length) (at-start .k) (at-start .task) (at-start .blocker) _ (c .before .before .before .blocker .given .1) (c .before .if1 .left)) (c .release-within2 .ensures)
 
 pub named-release-spec : {M : Type 1} → statement M
 named-release-spec =
@@ -57,7 +49,7 @@ named-release-spec =
     release-within-requires
     returns
     cast-if1
-    release-within-requires-2
+    release-once-requires
     returns-2
-    returns-3
-    returns-4)
+    release-within-requires-2
+    returns-3)

@@ -1,9 +1,9 @@
 /* How much stack each proved call takes.
  *
  *   stack            prints a line of a table for each call: the most that one of its inputs took
- *   stack --small    stops where a call takes more than the size beside it in this file; then makes
- *                    it with twice that size above a page that can't be touched, so that a call
- *                    which takes more ends the program
+ *   stack --small    stops where a call takes more than the size beside it in this file, with some
+ *                    bytes for the C library; then makes it with twice that size above a page that
+ *                    can't be touched, so that a call which takes more ends the program
  *
  * A call is made in a context of its own, on memory that was painted: what is no longer paint was
  * taken, whether the stack pointer went there or not. There are two paints, because a call could
@@ -233,18 +233,21 @@ struct call {
     size_t count;
 };
 
+/* What memset and memcpy may take in another C library than the one that was measured with. */
+#define LIBRARY 64
+
 static const struct call empty = {"nothing", nothing, 0, for_nothing, COUNT(for_nothing)};
 
 static const struct call calls[] = {
-    {"schedule", schedule, 984, for_schedule, COUNT(for_schedule)},
-    {"pattern", pattern, 1032, for_pattern, COUNT(for_pattern)},
+    {"schedule", schedule, 505, for_schedule, COUNT(for_schedule)},
+    {"pattern", pattern, 553, for_pattern, COUNT(for_pattern)},
     {"verdict", verdict, 120, for_verdict, COUNT(for_verdict)},
-    {"reader", reader, 1304, for_reader, COUNT(for_reader)},
+    {"reader", reader, 1256, for_reader, COUNT(for_reader)},
     {"writer", writer, 56, for_writer, COUNT(for_writer)},
     {"generator", generator, 48, for_generator, COUNT(for_generator)},
     {"sheet reader", sheet_read, 1168, for_sheet_reader, COUNT(for_sheet_reader)},
     {"sheet writer", sheet_write, 48, for_sheet_writer, COUNT(for_sheet_writer)},
-    {"tile_check", check, 2280, for_check, COUNT(for_check)},
+    {"tile_check", check, 1240, for_check, COUNT(for_check)},
 };
 
 /* ---- A stack of its own for a call */
@@ -331,7 +334,7 @@ static void show(const struct call *call)
 
 static void stop_if_grown(const struct call *call, size_t bytes)
 {
-    if (bytes <= call->size)
+    if (bytes <= call->size + LIBRARY)
         return;
     printf(", before ");
     print_bytes(call->size);

@@ -6,7 +6,7 @@ use native.Mathlib.Omega.{arith}
 use borrow.Author.Tests.{le-leb, lt-leb, lt-ltb, le-ltb, eq-eqb, ne-eqb}
 use Rattle.rules.specs.declared.Task.{Task}
 use Rattle.rules.specs.Demand.{countWithin, due}
-use Rattle.rules.specs.Jobs.{Train, countBefore, concreteTrain, namedTrain}
+use Rattle.rules.specs.Jobs.{countBefore, concreteTrain, namedTrain}
 use Rattle.rules.specs.declared.Blocker.{Blocker}
 
 module _ (x : ℕ) (τ : Task) where

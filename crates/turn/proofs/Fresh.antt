@@ -1,10 +1,10 @@
 -- Before the first row: counters that all stand at 0 stand for the jobs of the plan.
 use mathlib.Core.Path.{_≡_, sym, ap, ap₂, _∙_}
-use Prim.Native.Nat.{ℕ, zero, suc, _+_, _-_, _*_, _≤_, _<_}
+use Prim.Native.Nat.{ℕ, zero, suc, _+_, _-_, _≤_, _<_}
 use native.Mathlib.Nat.{zero-mul}
 use native.Mathlib.Omega.{arith}
 use mathlib.Core.List.{List, _++_}
-use lib.ListN.{length, getD, getD-replicate}
+use lib.ListN.{getD, getD-replicate}
 use Rattle.rules.specs.Numbers.{taskMost}
 use Rattle.rules.specs.Task.{tasksOf}
 use Rattle.rules.specs.Dispatch.{Job}

@@ -1,6 +1,5 @@
 -- `trains::named_count` counts the jobs of the named pattern: by cases on the blocker, as the definition goes.
 use mathlib.Core.Path.{sym, ap, _∙_}
-use native.Mathlib.Omega.{arith}
 use borrow.Author.Needs.{needs}
 use Rattle.rules.specs.Jobs.{Train}
 use Rattle.rules.proofs.TaskTrains.{nobody-train, blocker-train, other-train}

@@ -1,5 +1,4 @@
 -- `trains::release_of` says when a job is released under a plan: by cases on the plan, as the definition goes.
-use mathlib.Core.Path.{sym}
 use borrow.Author.Needs.{needs}
 use Rattle.rules.proofs.TaskTrains.{concrete-train}
 use Rattle.trains.proofs.release_of.Statement.{statement}

@@ -1,14 +1,13 @@
 -- `turn::consider` keeps or replaces the best of the later tasks as document 01 orders: by cases on whether task i has a job left,
 -- and then on the starts and the deadlines; each case is a law of the walk.
 use denote.Ref.{now}
-use mathlib.Core.Path.{_≡_, ap, _∙_}
+use mathlib.Core.Path.{ap, _∙_}
 use native.Mathlib.Omega.{arith}
 use lib.ListN.{getD}
 use borrow.Author.Needs.{needs}
 use Rattle.rules.specs.Table.{taskIn}
 use Rattle.rules.specs.declared.Task.{Task}
 use Rattle.rules.proofs.Tables.{task-sound}
-use Rattle.trains.specs.declared.Release.{Release}
 use Rattle.trains.specs.Releases.{Comes}
 use Rattle.turn.specs.Counters.{trainAt}
 use Rattle.turn.proofs.Walk.{Offer, best-done, best-new, best-old}

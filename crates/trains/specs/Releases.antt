@@ -15,18 +15,18 @@ releasedBefore Z τ = record { first = τ .R; count = countBefore Z τ }
 abbrev pub dueWithin : ℕ → ℕ → Task → Train
 dueWithin r L τ = record { first = r; count = countWithin L τ }
 
--- the train of one job, at 0
-abbrev pub once : Train
-once = record { first = 0; count = 1 }
-
--- the train has job q, and it is released at r; both numbers are small
-pub record Coming (x : Train) (τ : Task) (q r : ℕ) : Type 0 where
+-- the train has job q, and with a period of T it is released at r; both numbers are small
+pub record Coming (x : Train) (T q r : ℕ) : Type 0 where
   pub live : q < x .count
-  pub when : r ≡ x .first + q * τ .T
+  pub when : r ≡ x .first + q * T
   pub few : q + 1 < 2 ^ 32
   pub early : r < 2 ^ 33
 
 -- what is said of job q of a train: when it is released, or that there is none
-pub record Comes (x : Train) (τ : Task) (q : ℕ) (said : Release) : Type 0 where
-  pub at : (r : ℕ) → said ≡ At r → Coming x τ q r
+pub record Comes (x : Train) (T q : ℕ) (said : Release) : Type 0 where
+  pub at : (r : ℕ) → said ≡ At r → Coming x T q r
   pub never : said ≡ Never → x .count ≤ q
+
+-- what is said of job q of the train of one job, at 0, whatever the period
+abbrev pub ComesOnce : ℕ → Release → Type 0
+ComesOnce q said = (T : ℕ) → Comes (record { first = 0; count = 1 }) T q said

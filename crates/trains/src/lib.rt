@@ -4,7 +4,7 @@ ghost use Prim.Native.Nat.{_-_, _*_, _^_, _<_};
 ghost use Rattle.rules.specs.Task.{Sound};
 ghost use Rattle.rules.specs.Demand.{countWithin};
 ghost use Rattle.rules.specs.Jobs.{countBefore, namedTrain, planTrain};
-ghost use Rattle.trains.specs.Releases.{Comes, releasedBefore, dueWithin, once};
+ghost use Rattle.trains.specs.Releases.{Comes, ComesOnce, releasedBefore, dueWithin};
 use arith::wide;
 use rules::Blocker;
 use rules::Plan;
@@ -75,7 +75,7 @@ fn periods(q: u32, period: u32) -> u64
 // When job q of a task is released, if that is before an end tick.
 fn release_before(task: Task, end: u32, q: u32) -> Release
     requires { ⌜ Sound task ⌝ }
-    ensures { λ r. ⌜ Comes (releasedBefore end task) task q r ⌝ }
+    ensures { λ r. ⌜ Comes (releasedBefore end task) (task .T) q r ⌝ }
 {
     let at = wide(task.R) + periods(q, task.T);
     if at < wide(end) {
@@ -88,7 +88,7 @@ fn release_before(task: Task, end: u32, q: u32) -> Release
 // When job q of a task that comes from a tick on is released, if it is due within a length from then.
 fn release_within(task: Task, length: u32, first: u32, q: u32) -> Release
     requires { ⌜ Sound task ⌝ }
-    ensures { λ r. ⌜ Comes (dueWithin first length task) task q r ⌝ }
+    ensures { λ r. ⌜ Comes (dueWithin first length task) (task .T) q r ⌝ }
 {
     let after = periods(q, task.T);
     if wide(task.D) + after <= wide(length) {
@@ -98,9 +98,9 @@ fn release_within(task: Task, length: u32, first: u32, q: u32) -> Release
     }
 }
 
-// When job q of a task that comes once, at 0, is released.
-fn release_once(task: Task, q: u32) -> Release
-    ensures { λ r. ⌜ Comes once task q r ⌝ }
+// When job q of a task that comes once, at 0, is released, whatever its period.
+fn release_once(q: u32) -> Release
+    ensures { λ r. ⌜ ComesOnce q r ⌝ }
 {
     if q == 0 {
         Release::At(0)
@@ -113,13 +113,13 @@ fn release_once(task: Task, q: u32) -> Release
 // from 0 on.
 fn named_release(length: u32, blocker: Blocker, k: usize, task: Task, q: u32) -> Release
     requires { ⌜ Sound task ⌝ }
-    ensures { λ r. ⌜ Comes (namedTrain length blocker k task) task q r ⌝ }
+    ensures { λ r. ⌜ Comes (namedTrain length blocker k task) (task .T) q r ⌝ }
 {
     let Blocker::Task(b) = blocker else {
         return release_within(task, length, 0, q);
     };
     if k == b as usize {
-        return release_once(task, q);
+        return release_once(q);
     }
     release_within(task, length, 1, q)
 }
@@ -127,7 +127,7 @@ fn named_release(length: u32, blocker: Blocker, k: usize, task: Task, q: u32) ->
 // When job q of task k is released under a plan, if its train has that job.
 pub fn release_of(plan: Plan, k: usize, task: Task, q: u32) -> Release
     requires { ⌜ Sound task ⌝ }
-    ensures { λ r. ⌜ Comes (planTrain plan k task) task q r ⌝ }
+    ensures { λ r. ⌜ Comes (planTrain plan k task) (task .T) q r ⌝ }
 {
     match plan {
         Plan::Concrete(end) => release_before(task, end, q),

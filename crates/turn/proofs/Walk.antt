@@ -19,7 +19,7 @@ use Rattle.turn.specs.Counters.{trainAt, releaseAt, jobAt, jobsAt, restF
 -- the next job of task i: released at r, it could start at a, and is due v after its release
 pub record Offer (w : List ℕ) (p : Plan) (nx : List ℕ) (t m i r a v : ℕ) : Type 0 where
   pub is-task : i < m
-  pub comes : Coming (trainAt w p i) (taskIn w i) (getD nx i 0) r
+  pub comes : Coming (trainAt w p i) (taskIn w i .T) (getD nx i 0) r
   pub starts : a ≡ max t r
   pub due-in : v ≡ taskIn w i .D
 

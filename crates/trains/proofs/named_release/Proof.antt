@@ -29,7 +29,7 @@ release-once-requires c κs = search needs
 returns-2 : tie.Need-returns-2
 returns-2 c =
     let at-start = c .before .before .before .before .before .args in
-    rw (blocker-train (at-start .length) (at-start .k) (at-start .task) (at-start .blocker) _ (c .before .before .before .blocker .given .1) (c .before .if1 .taken)) (c .release-once .ensures)
+    rw (blocker-train (at-start .length) (at-start .k) (at-start .task) (at-start .blocker) _ (c .before .before .before .blocker .given .1) (c .before .if1 .taken)) (c .release-once .ensures (at-start .task .T))
 
 release-within-requires-2 : tie.Need-release-within-requires-2
 release-within-requires-2 c κs = search needs

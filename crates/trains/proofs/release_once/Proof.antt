@@ -6,11 +6,11 @@ use Rattle.trains.proofs.release_once.Tie as tie
 
 -- it is that
 returns : tie.Need-returns
-returns c = once-at (c .before .args .task) (c .before .args .q) (c .if1 .taken)
+returns c = once-at (c .before .args .q) (c .if1 .taken)
 
 -- it is another
 returns-2 : tie.Need-returns-2
-returns-2 c = once-never (c .before .args .task) (c .before .args .q) (omega arith)
+returns-2 c = once-never (c .before .args .q) (omega arith)
 
 pub release-once-spec : {M : Type 1} → statement M
 release-once-spec = tie.close (tie.spec returns returns-2)

@@ -41,7 +41,7 @@ start asked = asked .before .before .before .before
 
 -- what is said is of task i as the table has it
 said : (asked : tie.After-release-of)
-    → Comes (trainAt (now (start asked .args .table)) (start asked .args .plan) (start asked .args .i)) (taskIn (now (start asked .args .table)) (start asked .args .i))
+    → Comes (trainAt (now (start asked .args .table)) (start asked .args .plan) (start asked .args .i)) (taskIn (now (start asked .args .table)) (start asked .args .i) .T)
     (getD (now (start asked .args .next)) (start asked .args .i) 0) (asked .release-of .result)
 said asked = rw (← asked .before .before .task-at .ensures) (asked .release-of .ensures)
 

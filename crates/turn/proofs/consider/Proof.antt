@@ -1,10 +1,11 @@
 -- `turn::consider` keeps or replaces the best of the later tasks as document 01 orders: by cases on whether task i has a job left,
 -- and then on the starts and the deadlines; each case is a law of the walk.
 use denote.Ref.{now}
-use mathlib.Core.Path.{ap, _∙_}
+use mathlib.Core.Path.{ap, subst, _∙_}
 use native.Mathlib.Omega.{arith}
 use lib.ListN.{getD}
 use borrow.Author.Needs.{needs}
+use Rattle.rules.specs.Jobs.{planTrain}
 use Rattle.rules.specs.Table.{taskIn}
 use Rattle.rules.specs.declared.Task.{Task}
 use Rattle.rules.proofs.Tables.{task-sound}
@@ -43,7 +44,9 @@ start asked = asked .before .before .before .before
 said : (asked : tie.After-release-of)
     → Comes (trainAt (now (start asked .args .table)) (start asked .args .plan) (start asked .args .i)) (taskIn (now (start asked .args .table)) (start asked .args .i) .T)
     (getD (now (start asked .args .next)) (start asked .args .i) 0) (asked .release-of .result)
-said asked = rw (← asked .before .before .task-at .ensures) (asked .release-of .ensures)
+said asked =
+    let of-task : Task → Type 0 = λ τ. Comes (planTrain (start asked .args .plan) (start asked .args .i) τ) (τ .T) (getD (now (start asked .args .next)) (start asked .args .i) 0) (asked .release-of .result) in
+    subst of-task (asked .before .before .task-at .ensures) (asked .release-of .ensures)
 
 -- task i has no job left
 returns : tie.Need-returns

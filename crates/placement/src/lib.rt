@@ -2,10 +2,7 @@
 ghost use mathlib.Core.Path.{_≡_};
 ghost use Rattle.rules.specs.Told.{numberTold, verdictTold};
 ghost use Rattle.rules.specs.Answers.{checkNumber};
-use rules::Refusal;
 use rules::VerdictAnswer;
-use scan::Scan;
-use table::TABLE_MOST;
 
 // The number of an answer.
 fn answer_number(answer: VerdictAnswer) -> u32
@@ -22,11 +19,7 @@ fn answer_number(answer: VerdictAnswer) -> u32
 pub extern "C" fn tile_check(text: &[u8]) -> u32
     ensures { λ n. ⌜ n ≡ checkNumber (now (text .entry)) ⌝ }
 {
-    let mut words = [0u32; TABLE_MOST];
-    let mut rest = text;
-    let scan = scan::scan_set(text, &mut words, &mut rest);
-    match scan {
-        Scan::Whole(n) => answer_number(verdict::verdict(&words[..4 * n as usize])),
-        Scan::Stop(l) => answer_number(VerdictAnswer::Refused(Refusal::BadLine(l))),
-    }
+    let first = judged::judge_first(text);
+    let answer = first.answer;
+    answer_number(answer)
 }

@@ -12,8 +12,8 @@ use Rattle.rules.specs.declared.VerdictAnswer.{VerdictAnswer}
 use Rattle.rules.specs.declared.ReportAnswer.the-variants.{Reported, Refused}
 use Rattle.rules.proofs.Calls.{report-short, report-lines}
 use Rattle.rules.proofs.Printed.{lines-are}
-use Rattle.report.specs.First.{Judges}
-use Rattle.report.specs.declared.First.{First}
+use Rattle.judged.specs.First.{Judges}
+use Rattle.judged.specs.declared.First.{First}
 
 module _ (n : ℕ) (text out : List ℕ) (first : First) (judged : Judges text first) where
   are-the-lines : line (bytes "set=") (digits n) ++ answerLines (first .answer) ≡ setLines n text

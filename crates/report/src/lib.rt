@@ -6,21 +6,12 @@ ghost use Rattle.rules.specs.Text.{bytes, digits, line};
 ghost use Rattle.rules.specs.Report.{answerLines};
 ghost use Rattle.rules.specs.Calls.{Reports};
 ghost use Rattle.print.specs.Place.{Puts};
-ghost use Rattle.report.specs.First.{Judges};
 use rules::Refusal;
 use rules::ReportAnswer;
 use rules::VerdictAnswer;
-use scan::Scan;
-use table::TABLE_MOST;
 
 // The most bytes that the lines for a set can take.
 pub const LINES_MOST: usize = 83;
-
-// What is found of the first set: the verdict or the refusal, and how many bytes are left to read.
-struct First {
-    answer: VerdictAnswer,
-    left: usize,
-}
 
 // The lines of a set with an answer are put at a place.
 fn put_set(out: &mut [u8], at: usize, number: u32, answer: VerdictAnswer) -> usize
@@ -31,31 +22,12 @@ fn put_set(out: &mut [u8], at: usize, number: u32, answer: VerdictAnswer) -> usi
     answers::put_answer(out, after_number, answer)
 }
 
-// The first set of a text is judged, or refused by 7, after which nothing is left to read.
-fn judge_first(text: &[u8]) -> First
-    ensures { λ r. ⌜ Judges (now (text .entry)) r ⌝ }
-{
-    let mut words = [0u32; TABLE_MOST];
-    let mut rest = text;
-    let scan = scan::scan_set(text, &mut words, &mut rest);
-    match scan {
-        Scan::Whole(n) => First {
-            answer: verdict::verdict(&words[..4 * n as usize]),
-            left: rest.len(),
-        },
-        Scan::Stop(l) => First {
-            answer: VerdictAnswer::Refused(Refusal::BadLine(l)),
-            left: 0,
-        },
-    }
-}
-
 // THE REPORT. The lines for the first set of a text, as set of that number, go to the start of out. The answer is their length, and how many
 // bytes of the text are left to read.
 pub fn report(number: u32, text: &[u8], out: &mut [u8]) -> ReportAnswer
     ensures { λ r. ⌜ Reports number (now (text .entry)) (now (out .entry)) r (now (out .exit)) ⌝ }
 {
-    let first = judge_first(text);
+    let first = judged::judge_first(text);
     let answer = first.answer;
     let left = first.left;
     let mut page = [0u8; LINES_MOST];

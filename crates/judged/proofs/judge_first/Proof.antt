@@ -1,4 +1,4 @@
--- `report::judge_first` meets its contract: a set that is whole is judged by its words, and the bytes after it are left; where a line is not as due,
+-- `judged::judge_first` meets its contract: a set that is whole is judged by its words, and the bytes after it are left; where a line is not as due,
 -- the set is refused so, and nothing is left.
 use mathlib.Core.Path.{sym, ap, _∙_}
 use Prim.Native.Nat.{_*_, _≤_}
@@ -9,8 +9,8 @@ use Rattle.rules.proofs.Calls.{first-stops, first-read}
 use Rattle.rules.proofs.Printed.{rest-stops, rest-read}
 use Rattle.scan.proofs.Found.{found, in-words}
 use borrow.Author.Needs.{needs}
-use Rattle.report.proofs.judge_first.Statement.{statement}
-use Rattle.report.proofs.judge_first.Tie as tie
+use Rattle.judged.proofs.judge_first.Statement.{statement}
+use Rattle.judged.proofs.judge_first.Tie as tie
 
 -- the words of the set are all in the table
 within : (counted : tie.After-known-told) → 4 * counted .before .scan .given .0 .0 ≤ length (counted .before .before .before .before .scan-set .last .1 .0)

@@ -5,7 +5,7 @@ use mathlib.Core.List.{List}
 use lib.ListN.{length}
 use Rattle.rules.specs.Answers.{firstAnswer}
 use Rattle.rules.specs.Report.{setRest}
-use Rattle.report.specs.declared.First.{First}
+use Rattle.judged.specs.declared.First.{First}
 
 -- the first set is judged: what is said of it, and how many bytes are left to read
 pub record Judges (text : List ℕ) (first : First) : Type 0 where

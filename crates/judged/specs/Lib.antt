@@ -1,0 +1,2 @@
+-- What is found of the first set of a text.
+pub mod First

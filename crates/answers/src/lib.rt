@@ -1,4 +1,6 @@
 // The lines of an answer, put at a place: a verdict's or a refusal's.
+#![tactic(auto)]
+
 ghost use Rattle.std.specs.Prelude.{◌+◌, ◌≤◌, length};
 ghost use Rattle.rules.specs.Refusals.{carried_line};
 ghost use Rattle.rules.specs.Text.{bytes, line};

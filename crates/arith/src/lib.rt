@@ -1,4 +1,6 @@
 // Wide numbers, for sums and products that 32 bits do not hold.
+#![tactic(auto)]
+
 ghost use Rattle.std.specs.Prelude.{◌≡◌, ◌<◌, ◌^◌, max};
 
 // A word as a wide number.

@@ -1,4 +1,6 @@
 // What is worked out for a length: what is due and what is waited for, the blocker, the work.
+#![tactic(auto)]
+
 ghost use Rattle.std.specs.Prelude.{◌≡◌, ◌*◌, ◌≤◌, ◌<◌, ◌^◌};
 ghost use Rattle.rules.specs.Task.{tasks_of};
 ghost use Rattle.rules.specs.Table.{ValidTable};
@@ -11,7 +13,7 @@ use table::task_at;
 use trains::count_within;
 
 // What is worked out for a length.
-#[derive(Drop)]
+#[derive(Clone, Copy)]
 struct Demand {
     due: u64,
     wait: u64,

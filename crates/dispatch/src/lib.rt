@@ -1,4 +1,6 @@
 // The rows of a plan's jobs: the one call that dispatches.
+#![tactic(auto)]
+
 ghost use Rattle.std.specs.Prelude.{◌≡◌, ◌*◌, ◌^◌, ◌<◌, ◌≤◌, length};
 ghost use Rattle.rules.specs.Task.{tasks_of};
 ghost use Rattle.rules.specs.Table.{ValidTable};

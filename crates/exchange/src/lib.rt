@@ -1,4 +1,6 @@
 // What becomes of an input, on slices: of a sheet the text of its set, of a text the sheet of its first set; or the words for what is wrong.
+#![tactic(auto)]
+
 ghost use Rattle.std.specs.Prelude.{◌≤◌, length};
 ghost use Rattle.rules.specs.Numbers.{table_most};
 ghost use Rattle.rules.specs.Calls.{Makes};
@@ -13,7 +15,7 @@ use wording::Source;
 pub const MADE_MOST: usize = 2057;
 
 // How many bytes were put: those of the text or sheet that was made, or of the words for what is wrong.
-#[derive(Drop)]
+#[derive(Clone, Copy)]
 pub enum Made {
     Bytes(usize),
     Told(usize),

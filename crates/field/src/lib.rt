@@ -1,4 +1,6 @@
 // One field of a sheet, and what follows it: a comma, the end of the record, or neither.
+#![tactic(auto)]
+
 ghost use Rattle.std.specs.Prelude.{◌≡◌};
 ghost use Rattle.rules.specs.Sheet.{mark};
 ghost use Rattle.field.specs.Fields.{Plain, Quoted, Finds, Ends, Steps};
@@ -12,7 +14,7 @@ const QUOTE: u8 = 34;
 const COMMA: u8 = 44;
 
 // What follows a field: more fields; the end of the record; or it, or what follows it, is not as due.
-#[derive(Drop)]
+#[derive(Clone, Copy)]
 pub enum Next {
     More,
     Last,

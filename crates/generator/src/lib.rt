@@ -1,11 +1,13 @@
 // The generator: its state is lent to each draw and moved on by it. Each call is thin, over one of `draws` on the number.
 // Two more take the generator by value and return it, over the lent ones.
+#![tactic(auto)]
+
 ghost use Rattle.rules.specs.Generator.{Draws, DrawsSet};
 
 use rules::ReadAnswer;
 
 // What a draw needs: the state, at first the seed.
-#[derive(Drop)]
+#[derive(Clone, Copy)]
 pub struct Generator {
     pub state: u32,
 }
@@ -31,14 +33,14 @@ pub fn draw_set(g: &mut Generator, number: u32, table: &mut [u32]) -> ReadAnswer
 }
 
 // What was drawn, and the generator after it.
-#[derive(Drop)]
+#[derive(Clone, Copy)]
 pub struct Drawn {
     pub number: u32,
     pub after: Generator,
 }
 
 // What a set's draw answered, and the generator after it.
-#[derive(Drop)]
+#[derive(Clone, Copy)]
 pub struct DrawnSet {
     pub answer: ReadAnswer,
     pub after: Generator,

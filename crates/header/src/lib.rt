@@ -1,4 +1,6 @@
 // The header of a sheet: how many columns there are, and which of them have the four names.
+#![tactic(auto)]
+
 ghost use Rattle.std.specs.Prelude.{◌≡◌, ◌<◌, [], ◌∷◌, length};
 ghost use Rattle.rules.specs.Sheet.{name_of, is_name};
 ghost use Rattle.header.specs.Headers.{Notes, all_named, Heads};

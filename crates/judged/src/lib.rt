@@ -1,4 +1,6 @@
 // The first set of a text, judged: for callers that want the answer and not the table.
+#![tactic(auto)]
+
 ghost use Rattle.judged.specs.First.{Judges};
 
 use rules::{Refusal, VerdictAnswer};
@@ -6,7 +8,7 @@ use scan::Scan;
 use table::TABLE_MOST;
 
 // What is found of the first set: the verdict or the refusal, and how many bytes are left to read.
-#[derive(Drop)]
+#[derive(Clone, Copy)]
 pub struct First {
     pub answer: VerdictAnswer,
     pub left: usize,

@@ -1,4 +1,6 @@
 // The records after a sheet's header: of each a kernel's four numbers, by the columns that have the names.
+#![tactic(auto)]
+
 ghost use Rattle.std.specs.Prelude.{◌≡◌, length};
 ghost use Rattle.rules.specs.Numbers.{table_most};
 ghost use Rattle.rules.specs.Sheet.{field_number};
@@ -9,7 +11,7 @@ use lines::Number;
 use table::TASK_MOST;
 
 // How many kernels there are, or the number of the first record that is not as due.
-#[derive(Drop)]
+#[derive(Clone, Copy)]
 pub enum Kernels {
     Whole(usize),
     Wrong(u32),

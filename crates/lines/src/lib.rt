@@ -1,10 +1,12 @@
 // One line, read: a key, a number, byte 10. What is left to read goes on through a lent slice.
+#![tactic(auto)]
+
 ghost use Rattle.std.specs.Prelude.{◌≡◌, ◌-◌, ◌<◌, true};
 ghost use Rattle.rules.specs.Text.{got, digit, more_digits, read_number, read_line};
 ghost use Rattle.lines.specs.Line.{Skips, Finds};
 
 // A number, or that none stands there as due.
-#[derive(Drop)]
+#[derive(Clone, Copy)]
 pub enum Number {
     Value(u32),
     Wrong,

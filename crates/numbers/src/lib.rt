@@ -1,4 +1,6 @@
 // The paper's number of each refusal and of each verdict, in code; rules/specs has the same as definitions.
+#![tactic(auto)]
+
 ghost use Rattle.std.specs.Prelude.{◌≡◌};
 ghost use Rattle.rules.specs.Refusals.{entry};
 ghost use Rattle.rules.specs.Told.{number_told, judged_told};

@@ -1,4 +1,6 @@
 // All that the program prints for an input, on slices: what is read and written stays outside.
+#![tactic(auto)]
+
 ghost use Rattle.std.specs.Prelude.{◌≤◌, length};
 ghost use Rattle.rules.specs.Numbers.{input_most};
 ghost use Rattle.output.specs.Output.{outputMost, Outputs};

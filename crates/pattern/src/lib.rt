@@ -1,4 +1,6 @@
 // The rows of the pattern behind a "misses".
+#![tactic(auto)]
+
 ghost use Rattle.std.specs.Prelude.{◌≡◌};
 ghost use Rattle.rules.specs.Answers.{rows_of};
 ghost use Rattle.rules.specs.Calls.{Shows};

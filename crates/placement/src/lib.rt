@@ -1,4 +1,6 @@
 // The placement pass's call, for C: one number for the first set of a text.
+#![tactic(auto)]
+
 ghost use Rattle.std.specs.Prelude.{◌≡◌};
 ghost use Rattle.rules.specs.Told.{number_told, verdict_told};
 ghost use Rattle.rules.specs.Answers.{check_number};

@@ -1,4 +1,6 @@
 // Lines, put at a place of a lent buffer: a key, a value, byte 10. Each call answers the place after what it put.
+#![tactic(auto)]
+
 ghost use Rattle.std.specs.Prelude.{◌≡◌, ◌+◌, ◌≤◌, ◌<◌, [], ◌∷◌, length};
 ghost use Rattle.rules.specs.Text.{digits, line};
 ghost use Rattle.print.specs.Place.{Puts};

@@ -1,4 +1,6 @@
 // THE READER: the first set of a text, the rest handed back, the answer in two numbers.
+#![tactic(auto)]
+
 ghost use Rattle.std.specs.Prelude.{◌≡◌, get_or};
 ghost use Rattle.rules.specs.Refusals.{carried_values};
 ghost use Rattle.rules.specs.Told.{number_told, value_told, read_told};

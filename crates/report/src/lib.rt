@@ -1,4 +1,6 @@
 // The report of one set: the lines that the program prints for the first set of a text.
+#![tactic(auto)]
+
 ghost use Rattle.std.specs.Prelude.{◌+◌, ◌≤◌, ◌++◌, length};
 ghost use Rattle.rules.specs.Text.{bytes, digits, line};
 ghost use Rattle.rules.specs.Report.{answer_lines};

@@ -1,11 +1,13 @@
 // One row: its words, and the late job that is held from row to row.
+#![tactic(auto)]
+
 ghost use Rattle.std.specs.Prelude.{◌≡◌, ◌∷◌, ◌++◌, ◌+◌, ◌*◌, ◌<◌, length, take, drop};
 ghost use Rattle.row.specs.Lateness.{noting, answered};
 
 use rules::ScheduleAnswer;
 
 // The late job so far whose deadline is least.
-#[derive(Drop)]
+#[derive(Clone, Copy)]
 pub enum Lateness {
     OnTime,
     Late { task: u64, job: u64, deadline: u64 },

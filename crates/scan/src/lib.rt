@@ -1,4 +1,6 @@
 // The first set of a text, line by line, into a table.
+#![tactic(auto)]
+
 ghost use Rattle.std.specs.Prelude.{◌*◌, ◌≤◌, ◌<◌, length};
 ghost use Rattle.rules.specs.Numbers.{task_most, table_most};
 ghost use Rattle.rules.specs.Text.{key_of, read_line, read_lines, read_set};
@@ -11,7 +13,7 @@ use rules::{ReadAnswer, Refusal, TASK_KEYS, TASKS_KEY};
 use table::{TABLE_MOST, TASK_MOST};
 
 // What a scan found: so many tasks, or the number of the first line that is not as due.
-#[derive(Drop)]
+#[derive(Clone, Copy)]
 pub enum Scan {
     Whole(u32),
     Stop(u32),

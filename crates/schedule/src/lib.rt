@@ -1,4 +1,6 @@
 // The concrete schedule of a table to an end tick.
+#![tactic(auto)]
+
 ghost use Rattle.rules.specs.Calls.{Schedules};
 
 use dispatch::dispatch;

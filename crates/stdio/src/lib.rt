@@ -1,4 +1,6 @@
 // Standard input read to its end, and standard output written whole, however many calls that takes; what failed is told on standard error.
+#![tactic(auto)]
+
 ghost use Rattle.std.specs.Prelude.{◌≤◌, ◌<◌, length};
 ghost use Rattle.rules.specs.Numbers.{input_most};
 ghost use Rattle.stdio.specs.Input.{Within};
@@ -9,7 +11,7 @@ use libc::{STDERR_FILENO, STDIN_FILENO, STDOUT_FILENO};
 const TRIES: u32 = 10000000;
 
 // What was read of standard input: all of it, so many bytes; or it fills the buffer; or a read failed after so many.
-#[derive(Drop)]
+#[derive(Clone, Copy)]
 pub enum Input {
     Whole(usize),
     TooLong,

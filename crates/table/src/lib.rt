@@ -1,4 +1,6 @@
 // A table and its tasks: whether it is one, refusals 1 to 4; the one reader of a task; and words that go to its start.
+#![tactic(auto)]
+
 ghost use Rattle.std.specs.Prelude.{◌≡◌, ◌+◌, ◌*◌, ◌≤◌, ◌<◌, ◌++◌, length, take, drop};
 ghost use Rattle.rules.specs.Numbers.{table_most};
 ghost use Rattle.rules.specs.Refusals.{answering};

@@ -1,4 +1,6 @@
 // What is said of an answer goes out: its number is returned, its values go to a lent buffer. For the probe.
+#![tactic(auto)]
+
 ghost use Rattle.std.specs.Prelude.{◌≤◌, ◌≡◌, ◌++◌, length, drop};
 ghost use Rattle.told.specs.Sayings.{said};
 ghost use Rattle.tell.specs.Gives.{Gives};

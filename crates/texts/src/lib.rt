@@ -1,4 +1,6 @@
 // The texts of sets drawn one after another, on slices.
+#![tactic(auto)]
+
 ghost use Rattle.std.specs.Prelude.{◌+◌, ◌*◌, ◌^◌, ◌≤◌, length};
 ghost use Rattle.texts.specs.Texts.{text_most, PutsSet, PutsSets};
 

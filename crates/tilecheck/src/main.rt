@@ -1,4 +1,6 @@
 // The program reads standard input and writes what `output` makes of it.
+#![tactic(auto)]
+
 use output::OUTPUT_MOST;
 use rules::INPUT_MOST;
 use stdio::{Input, print_bytes, read_input, tell_read};

@@ -1,4 +1,6 @@
 // The program: called with SEED and COUNT, it prints the texts of COUNT sets drawn from SEED, one after another.
+#![tactic(auto)]
+
 ghost use Rattle.std.specs.Prelude.{◌≡◌, ◌+◌, ◌^◌, ◌≤◌, min};
 ghost use Rattle.rules.specs.Generator.{state_after_sets};
 

@@ -1,4 +1,6 @@
 // The program: standard input is a sheet, and the text of its set is printed; or with --back it is a text, and the sheet of its first set is.
+#![tactic(auto)]
+
 use exchange::{MADE_MOST, Made};
 use libc::STDERR_FILENO;
 use rules::INPUT_MOST;

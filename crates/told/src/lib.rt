@@ -1,4 +1,6 @@
 // Each answer told as a number with values, in code; rules/specs/Told.antt has the same as definitions. For the probe.
+#![tactic(auto)]
+
 ghost use Rattle.std.specs.Prelude.{◌≡◌};
 ghost use Rattle.rules.specs.Told.{refusal_told, read_told, write_told, schedule_told, pattern_told};
 ghost use Rattle.told.specs.Sayings.{said, read_probed, blocker_probed, misses_probed, verdict_probed, draw_probed, set_probed};
@@ -9,7 +11,7 @@ use rules::{
 };
 
 // A number with no to four values.
-#[derive(Drop)]
+#[derive(Clone, Copy)]
 pub enum Saying {
     Bare(u32),
     One(u32, u64),

@@ -1,4 +1,6 @@
 // A task's train of jobs under a plan: how many there are, and when each is released. Nothing of it is kept: it is worked out where it is asked for.
+#![tactic(auto)]
+
 ghost use Rattle.std.specs.Prelude.{◌≡◌, ◌-◌, ◌*◌, ◌^◌, ◌<◌};
 ghost use Rattle.rules.specs.Task.{Sound};
 ghost use Rattle.rules.specs.Demand.{count_within};
@@ -9,7 +11,7 @@ use arith::wide;
 use rules::{Blocker, Plan, Task};
 
 // When a job is released, if the train has it.
-#[derive(Drop)]
+#[derive(Clone, Copy)]
 pub enum Release {
     At(u64),
     Never,

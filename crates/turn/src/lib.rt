@@ -1,4 +1,6 @@
 // Which job starts next. Of each task the number of its next job is kept; when that job is released is worked out while walking.
+#![tactic(auto)]
+
 ghost use Rattle.std.specs.Prelude.{◌+◌, ◌^◌, ◌<◌, length};
 ghost use Rattle.rules.specs.Table.{Valid};
 ghost use Rattle.turn.specs.Counters.{rest_from, Chosen, Best};
@@ -9,7 +11,7 @@ use table::{TASK_MOST, task_at};
 use trains::{Release, release_of};
 
 // The next job to start: its task, its start and its deadline.
-#[derive(Drop)]
+#[derive(Clone, Copy)]
 pub struct Turn {
     pub task: usize,
     pub start: u64,

@@ -1,5 +1,7 @@
 // Executes document 01's sets: they stand in the file stdin, and what must be printed of each in the file stdout. Then come sets drawn from a fixed
 // seed, and what is printed of them.
+#![tactic(auto)]
+
 use libc::{STDIN_FILENO, STDOUT_FILENO};
 use output::OUTPUT_MOST;
 use rules::INPUT_MOST;

@@ -1,4 +1,6 @@
 // The verdict over all arrivals: the look at the lengths, the span, and the call.
+#![tactic(auto)]
+
 ghost use Rattle.std.specs.Prelude.{◌≡◌};
 ghost use Rattle.rules.specs.Task.{tasks_of};
 ghost use Rattle.rules.specs.Demand.{span, verdict};
@@ -16,14 +18,14 @@ use table::check_table;
 const HORIZON: u32 = 100000;
 
 // The first length that fails, with its excess.
-#[derive(Drop)]
+#[derive(Clone, Copy)]
 enum First {
     Fails(u32, u32),
     Nowhere,
 }
 
 // The answer of the search for the span.
-#[derive(Drop)]
+#[derive(Clone, Copy)]
 enum Found {
     At(u32),
     Nowhere,

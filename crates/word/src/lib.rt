@@ -1,9 +1,11 @@
 // A word that a program is called with, as a number.
+#![tactic(auto)]
+
 ghost use Rattle.std.specs.Prelude.{◌≡◌};
 ghost use Rattle.word.specs.Word.{number_in};
 
 // What a word is: a number, or not one that is asked for.
-#[derive(Drop)]
+#[derive(Clone, Copy)]
 pub enum Decimal {
     Number(u32),
     Wrong,

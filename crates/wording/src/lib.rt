@@ -1,4 +1,6 @@
 // The words for what is wrong with a sheet or with a text, put into a lent buffer.
+#![tactic(auto)]
+
 ghost use Rattle.std.specs.Prelude.{◌+◌, ◌≤◌, ◌<◌, ◌++◌, length};
 ghost use Rattle.rules.specs.Numbers.{table_most};
 ghost use Rattle.rules.specs.Text.{digits};
@@ -9,7 +11,7 @@ ghost use Rattle.wording.specs.Wording.{place, bad_record, wrong_in, sentence, t
 use rules::{DEADLINE, EXECUTION, PERIOD, RELEASE, Refusal};
 
 // Where something is wrong: in a sheet, or in a text.
-#[derive(Drop)]
+#[derive(Clone, Copy)]
 pub enum Source {
     Sheet,
     Text,

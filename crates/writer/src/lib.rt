@@ -1,4 +1,6 @@
 // The writer: the text of a set.
+#![tactic(auto)]
+
 ghost use Rattle.std.specs.Prelude.{◌≡◌, ◌+◌, ◌≤◌, ◌<◌, ◌++◌, length, drop};
 ghost use Rattle.rules.specs.Numbers.{table_most};
 ghost use Rattle.rules.specs.Text.{key_of, digits, line, write_set};

@@ -1,4 +1,4 @@
-// The placement pass's call, for C: one number for the first set of a text.
+// The placement pass's call: one number for the first set of a text. `placement_c` hands it to C.
 #![tactic(auto)]
 
 ghost use Rattle.std.specs.Prelude.{◌≡◌};
@@ -18,8 +18,7 @@ fn answer_number(answer: VerdictAnswer) -> u32
 }
 
 // 100 meets, 101 misses, 102 too far, for the first set; or the number of the refusal, of the reading or of the table, at once.
-#[unsafe(no_mangle)]
-pub extern "C" fn tile_check(text: &[u8]) -> u32
+pub fn tile_check(text: &[u8]) -> u32
     ensures { result ≡ check_number text.now }
 {
     let first = judged::judge_first(text);

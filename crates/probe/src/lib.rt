@@ -1,6 +1,6 @@
 // Every call with plain numbers at its boundary, for tests and benchmarks: a number is returned, and what the answer
 // carries goes to the start of out. A refusal is its number, with what it carries. An out shorter than 4 words gets 999,
-// and nothing is done.
+// and nothing is done. `probe_c` hands each to C.
 #![tactic(auto)]
 
 ghost use Rattle.std.specs.Prelude.{◌≡◌, ◌-◌, length};
@@ -16,8 +16,7 @@ use generator::Generator;
 const ROOM: usize = 4;
 
 // The reader: 0 with the task count and the bytes used.
-#[unsafe(no_mangle)]
-pub extern "C" fn probe_read(text: &[u8], table: &mut [u32], out: &mut [u64]) -> u32
+pub fn probe_read(text: &[u8], table: &mut [u32], out: &mut [u64]) -> u32
     ensures told { Probes (read_probed (read_answer text.now table.old) (length text.now - length (read_rest text.now table.old))) out.old result out.new }
     ensures filled { table.new ≡ by_room out.old table.old (read_table text.now table.old) }
 {
@@ -32,8 +31,7 @@ pub extern "C" fn probe_read(text: &[u8], table: &mut [u32], out: &mut [u64]) ->
 }
 
 // The writer: 0 with the length.
-#[unsafe(no_mangle)]
-pub extern "C" fn probe_write(table: &[u32], text: &mut [u8], out: &mut [u64]) -> u32
+pub fn probe_write(table: &[u32], text: &mut [u8], out: &mut [u64]) -> u32
     ensures told { Probes (write_told (write_answer table.now text.old)) out.old result out.new }
     ensures filled { text.new ≡ by_room out.old text.old (write_buffer table.now text.old) }
 {
@@ -44,8 +42,7 @@ pub extern "C" fn probe_write(table: &[u32], text: &mut [u8], out: &mut [u64]) -
 }
 
 // The sheet's reader: 0 with the task count.
-#[unsafe(no_mangle)]
-pub extern "C" fn probe_sheet_read(text: &[u8], table: &mut [u32], out: &mut [u64]) -> u32
+pub fn probe_sheet_read(text: &[u8], table: &mut [u32], out: &mut [u64]) -> u32
     ensures told { Probes (read_told (read_sheet_answer text.now table.old)) out.old result out.new }
     ensures filled { table.new ≡ by_room out.old table.old (read_sheet_table text.now table.old) }
 {
@@ -56,8 +53,7 @@ pub extern "C" fn probe_sheet_read(text: &[u8], table: &mut [u32], out: &mut [u6
 }
 
 // The sheet's writer: 0 with the length.
-#[unsafe(no_mangle)]
-pub extern "C" fn probe_sheet_write(table: &[u32], text: &mut [u8], out: &mut [u64]) -> u32
+pub fn probe_sheet_write(table: &[u32], text: &mut [u8], out: &mut [u64]) -> u32
     ensures told { Probes (write_told (write_sheet_answer table.now text.old)) out.old result out.new }
     ensures filled { text.new ≡ by_room out.old text.old (write_sheet_buffer table.now text.old) }
 {
@@ -68,8 +64,7 @@ pub extern "C" fn probe_sheet_write(table: &[u32], text: &mut [u8], out: &mut [u
 }
 
 // The schedule: 200 on time with the row count; 201 late with the row count, task, job and deadline.
-#[unsafe(no_mangle)]
-pub extern "C" fn probe_schedule(table: &[u32], z: u32, rows: &mut [u64], out: &mut [u64]) -> u32
+pub fn probe_schedule(table: &[u32], z: u32, rows: &mut [u64], out: &mut [u64]) -> u32
     ensures told { Probes (schedule_told (schedule_answer table.now z rows.old)) out.old result out.new }
     ensures filled { rows.new ≡ by_room out.old rows.old (schedule_buffer table.now z rows.old) }
 {
@@ -80,8 +75,7 @@ pub extern "C" fn probe_schedule(table: &[u32], z: u32, rows: &mut [u64], out: &
 }
 
 // The verdict: 100 with the span; 101 with the length, the blocker (2^64 - 1 for none) and the excess; 102.
-#[unsafe(no_mangle)]
-pub extern "C" fn probe_verdict(table: &[u32], out: &mut [u64]) -> u32
+pub fn probe_verdict(table: &[u32], out: &mut [u64]) -> u32
     ensures { Probes (verdict_probed (verdict_answer table.now)) out.old result out.new }
 {
     if out.len() < ROOM {
@@ -91,8 +85,7 @@ pub extern "C" fn probe_verdict(table: &[u32], out: &mut [u64]) -> u32
 }
 
 // The pattern: 0 with the row count.
-#[unsafe(no_mangle)]
-pub extern "C" fn probe_pattern(table: &[u32], rows: &mut [u64], out: &mut [u64]) -> u32
+pub fn probe_pattern(table: &[u32], rows: &mut [u64], out: &mut [u64]) -> u32
     ensures told { Probes (pattern_told (pattern_answer table.now rows.old)) out.old result out.new }
     ensures filled { rows.new ≡ by_room out.old rows.old (pattern_buffer table.now rows.old) }
 {
@@ -103,8 +96,7 @@ pub extern "C" fn probe_pattern(table: &[u32], rows: &mut [u64], out: &mut [u64]
 }
 
 // A draw: 0 with the number drawn and the state after it.
-#[unsafe(no_mangle)]
-pub extern "C" fn probe_draw(state: u32, out: &mut [u64]) -> u32
+pub fn probe_draw(state: u32, out: &mut [u64]) -> u32
     ensures { Probes (draw_probed (drawn state) (next_state state)) out.old result out.new }
 {
     if out.len() < ROOM {
@@ -115,8 +107,7 @@ pub extern "C" fn probe_draw(state: u32, out: &mut [u64]) -> u32
 }
 
 // A set drawn: 0 with the task count and the state after it; 6 with the state.
-#[unsafe(no_mangle)]
-pub extern "C" fn probe_generate(state: u32, number: u32, table: &mut [u32], out: &mut [u64]) -> u32
+pub fn probe_generate(state: u32, number: u32, table: &mut [u32], out: &mut [u64]) -> u32
     ensures told { Probes (set_probed (draw_answer state number table.old) (draw_state state number table.old)) out.old result out.new }
     ensures filled { table.new ≡ by_room out.old table.old (draw_table state number table.old) }
 {

@@ -1,7 +1,6 @@
 -- The late job that is held, row by row.
 use mathlib.Core.Path.{◌≡◌, refl, sym, ap, ◌∙◌}
 use Prim.Native.Nat.{ℕ, ◌≤◌, ◌<◌}
-use native.Mathlib.Omega.{arith}
 use mathlib.Core.Bool.{Bool, true, false}
 use mathlib.Core.List.{List, [], ◌∷◌, ◌++◌}
 use mathlib.Core.Option.{Option, none, some}
@@ -10,15 +9,11 @@ use Rattle.rules.specs.Choice.{if◌then◌else◌}
 use Rattle.rules.specs.Dispatch.{Job, Row, finish, before, late_job}
 use Rattle.rules.specs.Answers.{timing}
 use Rattle.rules.proofs.Booleans.{split}
-use Rattle.rules.proofs.Order.{ahead_first, goes_before, sooner_yes, sooner_no, earlier, earlier_none}
+use Rattle.rules.proofs.Order.{sooner_yes, sooner_no, earlier, earlier_none}
 use Rattle.rules.proofs.LateJob.{late_one, late_not, late_append}
 use Rattle.row.specs.declared.Lateness.{Lateness}
 use Rattle.row.specs.declared.Lateness.TheVariants.{OnTime, Late}
 use Rattle.row.specs.Lateness.{lateness, noting, answered}
-
--- a job by what is held of it
-abbrev held_job : ℕ → ℕ → ℕ → Job
-held_job k q d = record { task = k; number = q; release = 0; deadline = d; run = 0 }
 
 -- a row that is on time
 pub on_time : (l : Lateness) (k q d f : ℕ) → f ≤ d → l ≡ noting l k q d f
@@ -29,18 +24,6 @@ on_time (Late i p e) k q d f h = rw (le-ltb d f h)
 of_two : (i j : Job) (f : ℕ) → j.deadline < f → noting (lateness (some i)) j.task j.number j.deadline f ≡ (if before j i then lateness (some j) else lateness (some i))
 unfolding before
 of_two i j f h = rw (lt-ltb j.deadline f h)
-
--- the one held stays, or the new one takes its place
-module _ (i p e k q d f : ℕ) (h : d < f) where
-  pub stays : e ≤ d → (d ≤ e → i ≤ k) → Late i p e ≡ noting (Late i p e) k q d f
-  stays a b =
-      sym (of_two (held_job i p e) (held_job k q d) f h
-      ∙ ap (λ (x : Bool). if x then Late k q d else Late i p e) (ahead_first (held_job i p e) (held_job k q d) (record { deadline = a; task = λ x. b (omega arith) })))
-
-  pub takes_over : d ≤ e → (e ≤ d → k < i) → Late k q d ≡ noting (Late i p e) k q d f
-  takes_over a b =
-      sym (of_two (held_job i p e) (held_job k q d) f h
-      ∙ ap (λ (x : Bool). if x then Late k q d else Late i p e) (goes_before (held_job k q d) (held_job i p e) a b))
 
 -- one row more is one row more of the rules' late job
 module _ (w : Row) where

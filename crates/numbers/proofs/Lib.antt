@@ -1,2 +1,0 @@
--- Laws of the table of refusals, for its code.
-mod Carries

@@ -6,7 +6,6 @@ use native.Mathlib.Omega.{arith}
 use mathlib.Core.List.{List}
 use mathlib.Core.Bool.{Bool, true, false}
 use Rattle.rules.specs.Text.{bad, after_key, read_number, line_end, read_line}
-use Rattle.rules.proofs.Booleans.{true_is_not_false}
 use Rattle.rules.proofs.ReadSteps.{line_no_key, line_after_key}
 use Rattle.lines.specs.Line.{found, seen, SkipsOne, FindsOne}
 use Rattle.lines.specs.declared.Number.{Number}

@@ -18,6 +18,7 @@ fn wrapping_mul(a: u32, b: u32) -> u32
 }
 
 // The state after a draw.
+#[tactic(auto, unfolding(rules::specs::Generator::next_state))]
 pub fn next(state: u32) -> u32
     ensures { result ≡ next_state state }
 {
@@ -25,6 +26,7 @@ pub fn next(state: u32) -> u32
 }
 
 // A draw: the number drawn; the state is moved on.
+#[tactic(auto, unfolding(rules::specs::Generator::drawn))]
 pub fn draw_from(state: &mut u32) -> u32
     ensures { Draws state.old result state.new }
 {
@@ -67,6 +69,7 @@ fn place(task: Task, asked: bool, left: usize, least: u32) -> Task
 }
 
 // A task's four words go to a place in a table.
+#[tactic(auto, using(rules::proofs::Slices::four))]
 fn put_task(table: &mut [u32], at: usize, task: Task)
     requires { at + 3 < length table.old }
     ensures { table.new ≡ take at table.old ++ (task.C ∷ task.D ∷ task.T ∷ task.R ∷ drop (at + 4) table.old) }

@@ -5,7 +5,7 @@ use native.Mathlib.Numerals.{add-one}
 use native.Mathlib.Omega.{arith}
 use mathlib.Core.List.{List, [], ◌∷◌, ◌++◌, append_assoc}
 use lib.ListN.{length, take, drop, set, length-append, take-append-drop}
-use lib.Seq.{set_split, take_at, drop_at, drop-append-add, drop-drop, length-take-le, take-set-le, take-length, paste}
+use lib.Seq.{set_split, take_at, drop_at, drop-append-add, drop-drop, length-take-le, take-set-le}
 use Rattle.rules.specs.Text.{line}
 use Rattle.rules.proofs.Digits.{lasts, lasts_none, lasts_more, lasts_length}
 use Rattle.rules.proofs.WriteSteps.{line_is, line_length}
@@ -30,10 +30,6 @@ put_none l at i v e = rw (e, lasts_none v) (put_nil l at)
 -- one byte
 pub put_one : (l : List ℕ) (at b : ℕ) → at < length l → set l at b ≡ put l at (b ∷ [])
 put_one l at b h = set_split l at b h ∙ ap (λ (k : ℕ). take at l ++ (b ∷ drop k l)) (sym (add-one at))
-
--- bytes that were pasted one by one
-pub put_paste : (l : List ℕ) (at : ℕ) (vs : List ℕ) → paste l at vs (length vs) ≡ put l at vs
-put_paste l at vs = ap (λ (x : List ℕ). (take at l ++ x) ++ drop (at + length vs) l) (take-length vs) ∙ append_assoc (take at l) vs (drop (at + length vs) l)
 
 -- the last byte, put before the others
 pub put_last : (l : List ℕ) (at : ℕ) (vs : List ℕ) (b k : ℕ) → length vs ≡ k → at + k < length l → put (set l (at + k) b) at vs ≡ put l at (vs ++ (b ∷ []))

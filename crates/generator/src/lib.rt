@@ -13,6 +13,7 @@ pub struct Generator {
 }
 
 // THE DRAW. The number drawn; the state is moved on.
+#[tactic(auto, unfolding(rules::specs::Generator::drawn))]
 pub fn draw(g: &mut Generator) -> u32
     ensures { Draws g.old.state result g.new.state }
 {
@@ -46,7 +47,7 @@ pub struct DrawnSet {
     pub after: Generator,
 }
 
-// The draw for a caller that holds the generator by value; the prover covers such callers.
+// The draw for a caller that holds the generator by value.
 pub fn draw_value(mut g: Generator) -> Drawn
     ensures { Draws g.state result.number result.after.state }
 {

@@ -1,4 +1,0 @@
--- What the walks share.
-pub mod Lent
-pub mod Locals
-pub mod Set

@@ -1,5 +1,6 @@
 -- What was read of standard input.
-use Rattle.std.specs.Prelude.{ℕ, ◌<◌}
+use Rattle.std.specs.Prelude.{ℕ, ◌<◌, List, Option, take}
+use Rattle.std.specs.Io.KnownBytes.{Appends, Consumes, IsAtEnd}
 use Rattle.rules.specs.Numbers.{input_most}
 use Rattle.stdio.specs.declared.Input.{Input}
 use Rattle.stdio.specs.declared.Input.TheVariants.{Whole, TooLong, Failed}
@@ -9,3 +10,13 @@ abbrev pub Within : Input → ℕ → Type 0
 Within (Whole n) k = n < k
 Within TooLong k = input_most < k
 Within (Failed n) k = n < k
+
+-- of a reader whose bytes are known: those that it gave stand at the start of the buffer, in their order, and whole is all of them
+abbrev pub Took : Option (List ℕ) → Option (List ℕ) → Input → List ℕ → Type 0
+Took old new (Whole n) buf = Consumes old new (take n buf) × IsAtEnd new
+Took old new TooLong buf = Consumes old new buf
+Took old new (Failed n) buf = Consumes old new (take n buf)
+
+-- of a writer whose bytes are known: it took a beginning of these, in their order
+abbrev pub TookBeginning : Option (List ℕ) → Option (List ℕ) → List ℕ → Type 0
+TookBeginning old new bytes = (n : ℕ) × Appends old new (take n bytes)

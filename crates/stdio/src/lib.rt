@@ -1,11 +1,14 @@
-// Standard input read to its end, and standard output written whole, however many calls that takes; what failed is told on standard error.
+// Standard input read to its end, and standard output written whole, however many calls that takes; what failed is told on standard error. The
+// streams are lent by the caller: what is promised holds of any reader and writer.
 #![tactic(auto)]
 
-ghost use Rattle.std.specs.Prelude.{◌≤◌, ◌<◌, length};
+ghost use Rattle.std.specs.Prelude.{◌≤◌, ◌<◌, length, take};
+ghost use Rattle.std.specs.Io.KnownBytes.{Appends};
 ghost use Rattle.rules.specs.Numbers.{input_most};
-ghost use Rattle.stdio.specs.Input.{Within};
+ghost use Rattle.stdio.specs.Input.{Within, Took, TookBeginning};
 
-use libc::{STDERR_FILENO, STDIN_FILENO, STDOUT_FILENO};
+use std::io::{Error, ErrorKind, Read, Write};
+use std::thread;
 
 // How often in a row a call that moved nothing is tried again.
 const TRIES: u32 = 10000000;
@@ -19,101 +22,102 @@ pub enum Input {
 }
 
 // Whether the call that just failed is worth another try: it was interrupted, or it would have had to wait. Then others may run first.
-fn may_try_again() -> bool {
-    let why = os::errno();
-    if why == libc::EINTR {
-        return true;
+fn may_try_again(why: &Error) -> bool {
+    match why.kind() {
+        ErrorKind::Interrupted => true,
+        ErrorKind::WouldBlock => {
+            thread::yield_now();
+            true
+        }
+        _ => false,
     }
-    if why == libc::EAGAIN {
-        libc::sched_yield();
-        return true;
-    }
-    false
 }
 
 // Standard input is read to its end, however many reads that takes. The buffer is longer than the longest input, so one that fills it is too long.
-pub fn read_input(buf: &mut [u8]) -> Input
+pub fn read_input<R: Read>(input: &mut R, buf: &mut [u8]) -> Input
     requires { input_most < length buf.old }
-    ensures { Within result (length buf.new) }
+    ensures within { Within result (length buf.new) }
+    ensures took { Took (R.remaining input.old) (R.remaining input.new) result buf.new }
 {
     let mut at: usize = 0;
     let mut tries = TRIES;
     while at < buf.len() {
-        let got = libc::read(STDIN_FILENO, &mut buf[at..]);
-        let more = io::count(got, &buf[at..]);
-        if more > 0 {
-            at += more;
-            tries = TRIES;
-        } else {
-            if got == 0 {
-                return Input::Whole(at);
+        match input.read(&mut buf[at..]) {
+            Ok(0) => return Input::Whole(at),
+            Ok(more) => {
+                at += more;
+                tries = TRIES;
             }
-            if tries == 0 {
-                return Input::Failed(at);
+            Err(why) => {
+                if tries == 0 || !may_try_again(&why) {
+                    return Input::Failed(at);
+                }
+                tries -= 1;
             }
-            let again = may_try_again();
-            if !again {
-                return Input::Failed(at);
-            }
-            tries -= 1;
         }
     }
     Input::TooLong
 }
 
 // How many of the bytes reached standard output, however many writes that takes.
-pub fn write_output(bytes: &[u8]) -> usize
-    ensures { result ≤ length bytes.now }
+pub fn write_output<W: Write>(output: &mut W, bytes: &[u8]) -> usize
+    ensures within { result ≤ length bytes.now }
+    ensures wrote { Appends (W.contents output.old) (W.contents output.new) (take result bytes.now) }
 {
     let mut at: usize = 0;
     let mut tries = TRIES;
     while at < bytes.len() {
-        let got = libc::write(STDOUT_FILENO, &bytes[at..]);
-        let more = io::count(got, &bytes[at..]);
-        if more > 0 {
-            at += more;
-            tries = TRIES;
-        } else {
-            if tries == 0 {
-                return at;
+        match output.write(&bytes[at..]) {
+            Ok(0) => return at,
+            Ok(more) => {
+                at += more;
+                tries = TRIES;
             }
-            let again = may_try_again();
-            if !again {
-                return at;
+            Err(why) => {
+                if tries == 0 || !may_try_again(&why) {
+                    return at;
+                }
+                tries -= 1;
             }
-            tries -= 1;
         }
     }
     at
 }
 
+// These words on standard error. Where they cannot be told, nobody is there to tell it to.
+pub fn tell<E: Write>(error: &mut E, words: &[u8]) {
+    let _ = error.write_all(words);
+}
+
 // A number on standard error.
-pub fn tell_count(n: usize) {
-    io::print_decimal(STDERR_FILENO, n as u64);
+pub fn tell_count<E: Write>(error: &mut E, n: usize) {
+    let _ = write!(error, "{n}");
 }
 
 // A read that failed is told on standard error, with what nothing was.
-pub fn tell_read(read: usize, undone: &[u8]) {
-    io::write_all(STDERR_FILENO, b"tilecheck: cannot read standard input: ");
-    tell_count(read);
-    io::write_all(STDERR_FILENO, b" bytes were read, nothing was ");
-    io::write_all(STDERR_FILENO, undone);
-    io::write_all(STDERR_FILENO, b"\n");
+pub fn tell_read<E: Write>(error: &mut E, read: usize, undone: &[u8]) {
+    tell(error, b"tilecheck: cannot read standard input: ");
+    tell_count(error, read);
+    tell(error, b" bytes were read, nothing was ");
+    tell(error, undone);
+    tell(error, b"\n");
 }
 
 // A write that failed is told on standard error.
-fn tell_write(written: usize, all: usize) {
-    io::write_all(STDERR_FILENO, b"tilecheck: cannot write standard output: ");
-    tell_count(written);
-    io::write_all(STDERR_FILENO, b" of ");
-    tell_count(all);
-    io::write_all(STDERR_FILENO, b" bytes were written\n");
+fn tell_write<E: Write>(error: &mut E, written: usize, all: usize) {
+    tell(error, b"tilecheck: cannot write standard output: ");
+    tell_count(error, written);
+    tell(error, b" of ");
+    tell_count(error, all);
+    tell(error, b" bytes were written\n");
 }
 
 // The bytes are printed on standard output; where they are not written whole, that is told.
-pub fn print_bytes(bytes: &[u8]) {
-    let written = write_output(bytes);
+pub fn print_bytes<W: Write, E: Write>(output: &mut W, error: &mut E, bytes: &[u8])
+    ensures { TookBeginning (W.contents output.old) (W.contents output.new) bytes.now }
+{
+    let written = write_output(output, bytes);
     if written < bytes.len() {
-        tell_write(written, bytes.len());
+        tell_write(error, written, bytes.len());
     }
 }

@@ -1,0 +1,36 @@
+-- Bytes that are known, of a reader and a writer: one more call's bytes stand behind those of the calls before.
+use Rattle.std.proofs.Common.{◌≡◌, ℕ, ◌+◌, ◌-◌, ◌≤◌, List, ◌++◌, Option, None, Some, length, take, drop, sym, ap, subst, ◌∙◌, append_assoc, length-take-le}
+use Rattle.std.specs.Io.KnownBytes.{Appends, Consumes}
+use borrow.Rule.Slice.PartMut.{put_mid, post_of}
+use Rattle.std.proofs.Math.Seq.{take-append-add}
+use Rattle.std.proofs.lemmas.List.{take_rest}
+use lib.Seq.{take-add, take-append-le}
+
+-- a reader that gave one part and then another gave both
+pub consumes_both : (a b c : Option (List ℕ)) (bs cs : List ℕ) → Consumes a b bs → Consumes b c cs → Consumes a c (bs ++ cs)
+consumes_both None b c bs cs p q = tt
+consumes_both (Some x) None c bs cs p q = absurd p
+consumes_both (Some x) (Some y) None bs cs p q = absurd q
+consumes_both (Some x) (Some y) (Some z) bs cs p q = p ∙ ap (λ l. bs ++ l) q ∙ sym (append_assoc bs cs z)
+
+-- a writer that took one part and then another took both
+pub appends_both : (a b c : Option (List ℕ)) (bs cs : List ℕ) → Appends a b bs → Appends b c cs → Appends a c (bs ++ cs)
+appends_both None b c bs cs p q = tt
+appends_both (Some x) None c bs cs p q = absurd p
+appends_both (Some x) (Some y) None bs cs p q = absurd q
+appends_both (Some x) (Some y) (Some z) bs cs p q = q ∙ ap (λ l. l ++ cs) p ∙ append_assoc x bs cs
+
+-- what was read before stays in front of what this read put at `at`
+pub read_more : (at k n : ℕ) (buf part : List ℕ) → at ≤ length buf → n ≤ length part → take at buf ++ take n part ≡ take (at + n) (put_mid at k buf part)
+read_more at k n buf part within fits =
+    let after = post_of at k buf in
+    ap (λ l. take at buf ++ l) (sym (take-append-le n part after fits))
+    ∙ sym (take-append-add (take at buf) (part ++ after) n)
+    ∙ ap (λ m. take (m + n) (put_mid at k buf part)) (length-take-le at buf within)
+
+-- the bytes that this write took follow those that were written before
+pub written_more : (a b c : Option (List ℕ)) (bytes : List ℕ) (at n : ℕ) → Appends a b (take at bytes)
+    → Appends b c (take n (take (length bytes - at) (drop at bytes))) → Appends a c (take (at + n) bytes)
+written_more a b c bytes at n before more =
+    let rest : Appends b c (take n (drop at bytes)) = subst (λ (l : List ℕ). Appends b c (take n l)) (take_rest bytes at) more in
+    subst (Appends a c) (sym (take-add at n bytes)) (appends_both a b c _ _ before rest)

@@ -1,5 +1,5 @@
 -- `table::check_words` names the first word out of its range: each step either stops at word i or leaves the decision to those after it.
-use Rattle.std.proofs.Common.{◌≡◌, sym, ap, ◌∙◌, arith}
+use Rattle.std.proofs.Common.{sym, ap, ◌∙◌, arith}
 use Rattle.std.proofs.Math.Option.{Option}
 use Rattle.rules.specs.Refusals.{answering}
 use Rattle.rules.specs.declared.Refusal.{Refusal}

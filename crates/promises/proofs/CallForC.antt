@@ -1,9 +1,8 @@
 -- The C call's number in one sentence: what it says is true of every arrival pattern of the set that was read.
 use mathlib.Core.Path.{◌≡◌, refl}
-use Prim.Native.Nat.{ℕ, ◌<◌}
+use Prim.Native.Nat.{ℕ}
 use native.Mathlib.Omega.{arith}
 use mathlib.Core.List.{List}
-use Rattle.rules.specs.declared.Task.{Task}
 use Rattle.rules.specs.Task.{tasks_of, AllSound}
 use Rattle.rules.specs.Table.{Fine}
 use Rattle.rules.specs.Told.{Told, number_told, verdict_told}

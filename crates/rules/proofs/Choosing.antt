@@ -12,7 +12,7 @@ use Rattle.rules.specs.Jobs.{train}
 use Rattle.rules.proofs.Booleans.{split}
 use Rattle.rules.proofs.Order.{sooner_none, sooner_absorbs}
 use Rattle.rules.proofs.Taken.{same_self, without_shorter}
-use Rattle.rules.proofs.Picked.{earliest_least, Pick, nobody, somebody, picks}
+use Rattle.rules.proofs.Picked.{earliest_least, Pick, somebody, picks}
 
 -- ONE JOB MORE
 -- it is released

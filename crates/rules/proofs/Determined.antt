@@ -18,7 +18,7 @@ use Rattle.rules.proofs.Trains.{trains_legal}
 use Rattle.rules.proofs.Taken.{Taken, taken_mem, taken_cases, taken_length, taken_distinct, without_taken, Distinct}
 use Rattle.rules.proofs.Legal.{task_at_sound, legal_fits, legal_distinct}
 use Rattle.rules.proofs.Picked.{Picked, Pick, nobody, somebody, picks, earliest_least, earliest_some}
-use Rattle.rules.specs.Policy.{Ahead, row_at, NotStarted, Obeys, NamedLate}
+use Rattle.rules.specs.Policy.{row_at, NotStarted, Obeys, NamedLate}
 use Rattle.rules.proofs.Runs.{distinct_run, run_jobs}
 use Rattle.rules.proofs.Dispatcher.{taken_gone, dispatch_obeys}
 use Rattle.rules.proofs.LateJob.{late_only}

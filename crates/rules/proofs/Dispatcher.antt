@@ -5,14 +5,14 @@ use native.Mathlib.Omega.{arith}
 use mathlib.Core.List.Memᴰ
 use mathlib.Core.List.{List, [], ◌∷◌, Memᴰ}
 use mathlib.Core.Bool.{false}
-use lib.ListN.{length, get_or}
+use lib.ListN.{length}
 use Rattle.rules.specs.Task.{AllSound}
 use Rattle.rules.specs.declared.Task.{Task}
 use Rattle.rules.specs.Dispatch.{Job, Row, finish, same, ready, dispatch}
 use Rattle.rules.specs.Legal.{Legal}
 use Rattle.rules.proofs.Taken.{Taken, now, later, taken_in, taken_mem, taken_cases, taken_length, taken_distinct, same_false, Distinct}
 use Rattle.rules.proofs.Legal.{legal_distinct}
-use Rattle.rules.specs.Policy.{Ahead, row_at, free_from, NotStarted, Obeys}
+use Rattle.rules.specs.Policy.{row_at, free_from, NotStarted, Obeys}
 use Rattle.rules.proofs.Picked.{Picked, earliest_least}
 use Rattle.rules.proofs.Runs.{Run, done, step, distinct_run}
 

@@ -1,20 +1,19 @@
 -- How long the jobs of a legal pattern can run in all: those due in a window at most Due, those released in one at most work.
 use mathlib.Core.Path.{◌≡◌, refl, ◌∙◌}
-use mathlib.Core.Logic.{◌⊎◌, inl, inr}
 use Prim.Native.Nat.{ℕ, zero, suc, ◌+◌, ◌-◌, ◌*◌, ◌/◌, max, min, ◌≤◌, ◌<◌}
-use native.Mathlib.Nat.{lt-mul-div-succ, mul-add, mul-suc, mul-zero, add_comm, zero-add}
+use native.Mathlib.Nat.{lt-mul-div-succ, mul-add, mul-suc, add_comm, zero-add}
 use native.Mathlib.Omega.{arith}
 use mathlib.Core.List.Memᴰ
 use mathlib.Core.List.{List, [], ◌∷◌, Memᴰ}
 use mathlib.Core.Bool.{Bool, true, false, not, ◌&&◌}
-use borrow.Author.Tests.{not-true, eqb-true, eqb-false, leb-true, ltb-true, ltb-false, le-leb, lt-leb, lt-ltb}
+use borrow.Author.Tests.{not-true, eqb-true, eqb-false, leb-true, ltb-true, ltb-false, le-leb, lt-ltb}
 use lib.Dec.{eqb, leb, ltb}
 use Rattle.rules.specs.Task.{task_at, AllSound}
 use Rattle.rules.specs.declared.Task.{Task}
 use Rattle.rules.specs.Dispatch.{Job}
 use Rattle.rules.specs.Legal.{Legal}
 use Rattle.rules.specs.Demand.{count_within, due, total_due, ceiling, work}
-use Rattle.rules.proofs.Booleans.{both_true, lt_or_ge}
+use Rattle.rules.proofs.Booleans.{both_true}
 use Rattle.rules.proofs.Taken.{Taken, now, later}
 use Rattle.rules.proofs.Legal.{task_at_sound, legal_fits}
 use Rattle.rules.proofs.TasksFrom.{Rest, rest_all, rest_here, rest_next}

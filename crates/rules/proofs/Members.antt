@@ -15,7 +15,7 @@ use Rattle.rules.specs.Choice.{if◌then◌else◌}
 use Rattle.rules.specs.Task.{task_at, AllSound}
 use Rattle.rules.specs.declared.Task.{Task}
 use Rattle.rules.specs.Dispatch.{Job}
-use Rattle.rules.specs.Jobs.{Train, OnTrain, train, trains, count_before, concrete_train, plan_train, planned, concrete, named_train, named}
+use Rattle.rules.specs.Jobs.{Train, OnTrain, train, trains, count_before, concrete_train, planned, concrete, named_train, named}
 use Rattle.rules.specs.Demand.{count_within, blocker}
 use Rattle.rules.specs.declared.Blocker.{Blocker}
 use Rattle.rules.proofs.Legal.{task_at_sound}

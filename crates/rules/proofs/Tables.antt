@@ -15,7 +15,7 @@ use Rattle.rules.specs.Choice.{if◌then◌else◌}
 use Rattle.rules.specs.Task.{tasks_of, task_at, Sound, AllSound}
 use Rattle.rules.specs.declared.Task.{Task}
 use Rattle.rules.specs.Refusals.{◌when◌, first_of}
-use Rattle.rules.specs.Numbers.{task_most, word_most}
+use Rattle.rules.specs.Numbers.{word_most}
 use Rattle.rules.specs.Table.{word_least, in_range, out_of_range, table_refusal, task_in, tasks_from, Valid}
 use Rattle.rules.specs.declared.Refusal.{Refusal}
 use Rattle.rules.specs.declared.Refusal.TheVariants.{NoWord, NotFours, TooManyWords, OutOfRange}

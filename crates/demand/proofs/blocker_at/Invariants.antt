@@ -1,0 +1,15 @@
+-- From the last task to the first, the longest wait of the tasks from number i on is held, and the lowest of those that have it.
+use Rattle.std.proofs.Common.{◌≤◌}
+use Rattle.rules.specs.Table.{task_count}
+use Rattle.rules.proofs.TasksLeft.{tasks_left}
+use Rattle.rules.proofs.LongestWait.{Longest}
+use Rattle.demand.proofs.blocker_at.Given as goal
+
+abbrev pub invariant-loop-i : goal.invariant-loop-i
+invariant-loop-i l = record {
+  in_range : l.i ≤ task_count l.table;
+  longest : Longest l.length l.i (tasks_left l.table l.i) l.most l.task;
+}
+
+abbrev pub decreases-loop-i : goal.decreases-loop-i
+decreases-loop-i l = l.i

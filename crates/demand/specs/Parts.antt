@@ -1,9 +1,8 @@
 -- What the parts of the look promise each other.
-use Rattle.std.specs.Prelude.{◌≡◌, ℕ, ◌≤◌, ◌<◌, ◌^◌, List}
+use Rattle.std.specs.Prelude.{◌≡◌, ℕ, ◌≤◌, ◌<◌, ◌^◌, List, if◌then◌else◌}
 use Rattle.rules.specs.Numbers.{word_most}
 use Rattle.rules.specs.Task.{Sound}
 use Rattle.rules.specs.declared.Task.{Task}
-use Rattle.rules.specs.Choice.{if◌then◌else◌}
 use Rattle.rules.specs.Demand.{total_due, longest_wait, fails, excess}
 use Rattle.demand.specs.declared.Demand.{Demand}
 

@@ -1,6 +1,5 @@
 -- The loop that fills a table: the first task stands there; after i tasks in all the others are those still to be drawn from the state.
-use Rattle.std.proofs.Common.{◌≡◌, ℕ, ◌+◌, ◌-◌, ◌*◌, ◌<◌, ◌≤◌, min, Bool, ◌&&◌, eqb, List, [], ◌∷◌, ◌++◌, length, take, drop, sym, refl, ap, ◌∙◌, ap₂, append_assoc, append-nil, arith, length-append, length-drop, take-append-drop, length-take-le, drop-drop}
-use Rattle.rules.specs.Choice.{if◌then◌else◌}
+use Rattle.std.proofs.Common.{◌≡◌, ℕ, ◌+◌, ◌-◌, ◌*◌, ◌<◌, ◌≤◌, min, Bool, ◌&&◌, eqb, List, [], ◌∷◌, ◌++◌, length, take, drop, sym, refl, ap, ◌∙◌, ap₂, append_assoc, append-nil, arith, length-append, length-drop, take-append-drop, length-take-le, drop-drop, if◌then◌else◌}
 use Rattle.rules.specs.declared.Task.{Task}
 use Rattle.rules.specs.Generator.{state_after, task_drawn, tasks_drawn, long_kernel, with_long, words_of}
 use Rattle.rules.proofs.Slices.{four_more}

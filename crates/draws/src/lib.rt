@@ -1,8 +1,7 @@
 // Draws on plain numbers: the state is a number that each draw is lent and moves on.
 #![tactic(auto)]
 
-ghost use Rattle.std.specs.Prelude.{◌≡◌, ◌+◌, ◌*◌, ◌%◌, ◌<◌, ◌≤◌, min, ◌&&◌, ◌∷◌, ◌++◌, length, take, drop, ◌==◌};
-ghost use Rattle.rules.specs.Choice.{if◌then◌else◌};
+ghost use Rattle.std.specs.Prelude.{◌≡◌, ◌+◌, ◌*◌, ◌%◌, ◌<◌, ◌≤◌, min, ◌&&◌, ◌∷◌, ◌++◌, length, take, drop, ◌==◌, if◌then◌else◌};
 ghost use Rattle.rules.specs.Generator.{next_state, state_after, task_drawn, tasks_drawn, long_kernel, with_long, words_of, Draws, DrawsSet};
 
 use rules::{ReadAnswer, Refusal, Task};

@@ -1,5 +1,6 @@
 -- What the program makes goes on: the text of a sheet is read as the sheet's words, and the sheet of a text gives the bytes of its first set back. Only
 -- a table that is not refused is written, and what is written of one is read back.
+use Rattle.std.specs.Prelude.{if◌then◌else◌}
 use mathlib.Core.Path.{◌≡◌, refl, sym, ap, ◌∙◌}
 use native.Mathlib.Omega.{arith}
 use mathlib.Core.List.{List, [], ◌∷◌, append-nil}
@@ -8,7 +9,6 @@ use mathlib.Core.Option.{Option, none, some}
 use Prim.Native.Nat.{ℕ, ◌<◌}
 use lib.Dec.{ltb}
 use lib.ListN.{length}
-use Rattle.rules.specs.Choice.{if◌then◌else◌}
 use Rattle.rules.specs.Numbers.{input_most}
 use Rattle.rules.specs.Refusals.{first_of, answering}
 use Rattle.rules.specs.Table.{table_refusal}

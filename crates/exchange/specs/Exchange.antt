@@ -1,7 +1,6 @@
 -- What becomes of an input: of a sheet the text of its set, of a text the sheet of its first set; or the words for what is wrong.
-use Rattle.std.specs.Prelude.{◌≡◌, ℕ, ◌/◌, List, [], ◌∷◌, ◌++◌, ltb, length, drop}
+use Rattle.std.specs.Prelude.{◌≡◌, ℕ, ◌/◌, List, [], ◌∷◌, ◌++◌, ltb, length, drop, if◌then◌else◌}
 use Rattle.std.proofs.Math.Option.{Option, some}
-use Rattle.rules.specs.Choice.{if◌then◌else◌}
 use Rattle.rules.specs.Numbers.{input_most}
 use Rattle.rules.specs.Refusals.{first_of, answering, lent}
 use Rattle.rules.specs.Table.{table_refusal}

@@ -1,7 +1,6 @@
 -- What the calls on one field promise, and that the one for other crates leaves one outcome.
-use Rattle.std.specs.Prelude.{◌≡◌, ℕ, suc, ◌≤◌, List, Bool, true, false, ltb, length, take, drop}
+use Rattle.std.specs.Prelude.{◌≡◌, ℕ, suc, ◌≤◌, List, Bool, true, false, ltb, length, take, drop, if◌then◌else◌}
 use Rattle.std.proofs.Math.Option.{Option, none, some}
-use Rattle.rules.specs.Choice.{if◌then◌else◌}
 use Rattle.rules.specs.Sheet.{Field, content, no_field, read_plain, read_quoted, read_field, after_end, Step, more, last, no_step, next_field}
 use Rattle.rules.specs.Standing.{standing, standing_step}
 use Rattle.field.specs.declared.Next.{Next}

@@ -1,6 +1,5 @@
 -- What the calls on a header promise, and that the one for other crates leaves one outcome.
-use Rattle.std.specs.Prelude.{◌≡◌, ℕ, ◌<◌, List, Bool, true, false, not, ◌&&◌, eqb, length, get_or}
-use Rattle.rules.specs.Choice.{if◌then◌else◌}
+use Rattle.std.specs.Prelude.{◌≡◌, ℕ, ◌<◌, List, Bool, true, false, not, ◌&&◌, eqb, length, get_or, if◌then◌else◌}
 use Rattle.rules.specs.Sheet.{fields, read_record, name_of, is_name, good_header, columns_of, read_sheet, no_header}
 
 -- a column's name is noted at each of the four that it is; or it was noted before

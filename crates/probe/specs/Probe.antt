@@ -1,6 +1,5 @@
 -- A probe tells where `out` has room. For tests and benchmarks only.
-use Rattle.std.specs.Prelude.{◌≡◌, ℕ, List, ltb, length}
-use Rattle.rules.specs.Choice.{if◌then◌else◌}
+use Rattle.std.specs.Prelude.{◌≡◌, ℕ, List, ltb, length, if◌then◌else◌}
 use Rattle.rules.specs.Told.{Told, number_told}
 use Rattle.tell.specs.Gives.{values_in}
 

@@ -1,6 +1,5 @@
 -- The answer that the reader's two numbers stand for, what the reader that returns the rest promises, and that this leaves one outcome.
-use Rattle.std.specs.Prelude.{◌≡◌, ℕ, List, eqb}
-use Rattle.rules.specs.Choice.{if◌then◌else◌}
+use Rattle.std.specs.Prelude.{◌≡◌, ℕ, List, eqb, if◌then◌else◌}
 use Rattle.rules.specs.Told.{number_told, value_told, read_told}
 use Rattle.rules.specs.Answers.{read_answer}
 use Rattle.rules.specs.Calls.{Reads}

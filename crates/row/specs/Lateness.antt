@@ -1,7 +1,6 @@
 -- The late job with the least deadline, as it is held from row to row.
-use Rattle.std.specs.Prelude.{ℕ, ◌&&◌, ◌||◌, ltb, eqb}
+use Rattle.std.specs.Prelude.{ℕ, ◌&&◌, ◌||◌, ltb, eqb, if◌then◌else◌}
 use Rattle.std.proofs.Math.Option.{Option, none, some}
-use Rattle.rules.specs.Choice.{if◌then◌else◌}
 use Rattle.rules.specs.Dispatch.{Job}
 use Rattle.rules.specs.declared.ScheduleAnswer.{ScheduleAnswer}
 use Rattle.row.specs.declared.Lateness.{Lateness}

@@ -1,4 +1,5 @@
 -- The wait and the blocker are those of document 01: the greatest C − 1, and the lowest-numbered task with the greatest C.
+use Rattle.std.specs.Prelude.{if◌then◌else◌}
 use mathlib.Core.Path.{◌≡◌, refl, ap, subst}
 use mathlib.Core.Logic.{◌↔◌}
 use Prim.Native.Nat.{ℕ, zero, suc, ◌+◌, ◌-◌, ◌≤◌, ◌<◌, max}
@@ -9,7 +10,6 @@ use mathlib.Core.Bool.{Bool, true, false, ◌&&◌}
 use lib.Dec.{ltb, eqb}
 use lib.ListN.{length}
 use borrow.Author.Tests.{ltb-true, ltb-false, lt-ltb, eqb-true, eqb-false}
-use Rattle.rules.specs.Choice.{if◌then◌else◌}
 use Rattle.rules.specs.Task.{task_at}
 use Rattle.rules.specs.declared.Task.{Task}
 use Rattle.rules.specs.Demand.{wait, longest_wait, first_waiting, blocker, Blocks}

@@ -1,4 +1,5 @@
 -- Tests joined by "and", read and made; the choice by a test; of two numbers one order or the other.
+use Rattle.std.specs.Prelude.{if◌then◌else◌}
 use mathlib.Core.Path.{◌≡◌, refl}
 use mathlib.Core.Logic.{◌⊎◌, inl, inr}
 use Prim.Native.Nat.{ℕ, ◌≤◌, ◌<◌}
@@ -8,7 +9,6 @@ use native.Mathlib.Omega.{arith}
 use mathlib.Core.Bool.{Bool, true, false, ◌&&◌}
 use lib.Dec.{leb, ltb}
 use borrow.Author.Tests.{le-leb, ltb-false}
-use Rattle.rules.specs.Choice.{if◌then◌else◌}
 
 -- an equation of two constructors, of which `cc` makes this one, shows anything
 pub impossible : {A : Type 0} → ◌≡◌ {A = ℕ} 0 1 → A

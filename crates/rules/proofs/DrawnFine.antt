@@ -1,4 +1,5 @@
 -- A set drawn is one that the verdict doesn't refuse: its tasks are short, or one of them is the long kernel, and so all its words are in range.
+use Rattle.std.specs.Prelude.{if◌then◌else◌}
 use mathlib.Core.Path.{◌≡◌, refl}
 use Prim.Native.Nat.{ℕ, zero, suc, ◌+◌, ◌%◌, ◌≤◌, ◌<◌, min}
 use native.Mathlib.Nat.{mod-lt}
@@ -9,7 +10,6 @@ use mathlib.Core.Bool.{Bool, true, false}
 use mathlib.Core.Option.{none}
 use lib.Dec.{eqb}
 use lib.ListN.{length, get_or}
-use Rattle.rules.specs.Choice.{if◌then◌else◌}
 use Rattle.rules.specs.Table.{table_refusal, Ranged, Fine}
 use Rattle.rules.specs.Generator.{drawn, state_after, count_drawn, task_drawn, tasks_drawn, long_kernel, last_long, with_long, set_drawn, words_of, words_drawn}
 use Rattle.rules.specs.declared.Task.{Task}

@@ -1,5 +1,6 @@
 -- One step of each definition that reads a field, or what follows one, at bytes known by their place. The content is told as it stands between
 -- quotes. A walk over the bytes of a field has passed some of them where the field is they, before what is read of the others.
+use Rattle.std.specs.Prelude.{if◌then◌else◌}
 use mathlib.Core.Path.{◌≡◌, refl, sym, ap, ap₂, ◌∙◌}
 use Prim.Native.Nat.{ℕ, ◌+◌, ◌≤◌, ◌<◌}
 use native.Mathlib.Numerals.{add-one}
@@ -11,7 +12,6 @@ use lib.Dec.{eqb}
 use lib.ListN.{length, take, drop, get_or, drop_of_length-le}
 use lib.Seq.{drop-cons, drop-drop, take-add}
 use borrow.Author.Tests.{eq-eqb, ne_eqb}
-use Rattle.rules.specs.Choice.{if◌then◌else◌}
 use Rattle.rules.specs.Text.{after_key}
 use Rattle.rules.specs.Sheet.{crlf, mark, Field, content, no_field, byte, read_plain, read_quoted, read_field, after_end, more, last, no_step, last_of, followed, Step, next_field}
 use Rattle.rules.specs.Sheets.{doubled}

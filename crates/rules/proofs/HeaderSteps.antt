@@ -1,4 +1,5 @@
 -- A header's columns one by one: which of them has a name, how many have it, and when the header is good.
+use Rattle.std.specs.Prelude.{if◌then◌else◌}
 use mathlib.Core.Path.{◌≡◌, refl, sym, ap, ◌∙◌}
 use Prim.Native.Nat.{ℕ, zero, suc, ◌+◌, ◌≤◌, ◌<◌}
 use native.Mathlib.Omega.{arith}
@@ -9,7 +10,6 @@ use lib.Dec.{eqb}
 use lib.ListN.{length, get_or}
 use lib.Seq.{ext_get_or}
 use borrow.Author.Tests.{eq-eqb, ne_eqb}
-use Rattle.rules.specs.Choice.{if◌then◌else◌}
 use Rattle.rules.specs.Text.{after_key}
 use Rattle.rules.specs.Numbers.{task_most}
 use Rattle.rules.specs.Sheet.{Record, fields, no_record, read_record, name_of, is_name, times, column_from, good_header, columns_of, no_header, read_tasks, under_header, read_sheet}

@@ -1,4 +1,5 @@
 -- The late job that a schedule names: of the late rows' jobs the one with the least deadline, ties to the lower task.
+use Rattle.std.specs.Prelude.{if◌then◌else◌}
 use mathlib.Core.Path.{◌≡◌, refl, sym, ap, ◌∙◌}
 use mathlib.Core.Logic.{◌↔◌}
 use mathlib.Core.Option.{Option, none, some}
@@ -8,7 +9,6 @@ use mathlib.Core.List.Memᴰ
 use mathlib.Core.List.{List, [], ◌∷◌, ◌++◌, Memᴰ}
 use mathlib.Core.Bool.{Bool, true, false}
 use borrow.Author.Tests.{lt-ltb, le-ltb}
-use Rattle.rules.specs.Choice.{if◌then◌else◌}
 use Rattle.rules.specs.Dispatch.{Job, Row, finish, late, before, sooner, late_job}
 use Rattle.rules.proofs.Booleans.{true_is_not_false}
 use Rattle.rules.specs.Policy.{Ahead, NamedLate}

@@ -1,4 +1,5 @@
 -- A line that is written is read back, and a line that is read was written so.
+use Rattle.std.specs.Prelude.{if◌then◌else◌}
 use mathlib.Core.Path.{◌≡◌, refl, sym, ap, ap₂, ◌∙◌}
 use Prim.Native.Nat.{ℕ, zero, suc, ◌+◌, ◌-◌, ◌*◌, ◌/◌, ◌%◌, ◌^◌, ◌≤◌, ◌<◌}
 use native.Mathlib.Decide.{dec_lt}
@@ -9,7 +10,6 @@ use mathlib.Core.Bool.{Bool, true, false}
 use mathlib.Core.Option.{Option, none, some}
 use lib.Dec.{eqb}
 use borrow.Author.Tests.{eq-eqb, eqb-true, eqb-false}
-use Rattle.rules.specs.Choice.{if◌then◌else◌}
 use Rattle.rules.specs.Text.{Read, got, bad, after_key, digit, more_digits, read_number, line_end, number_line, read_line, digits, line}
 use Rattle.rules.proofs.Digits.{digits_one, digits_more}
 use Rattle.rules.proofs.ReadSteps.{below_digits, a_digit, digit_range, more_other, more_step, number_zero, number_more, end_right}

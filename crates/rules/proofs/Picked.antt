@@ -1,4 +1,5 @@
 -- What the dispatcher's choice does: when the next job starts, and which one it is.
+use Rattle.std.specs.Prelude.{if◌then◌else◌}
 use mathlib.Core.Path.{◌≡◌, refl}
 use mathlib.Core.Option.{Option, none, some}
 use Prim.Native.Nat.{ℕ, min, ◌≤◌, ◌<◌}
@@ -8,7 +9,6 @@ use mathlib.Core.Bool.{Bool, true, false}
 use native.Mathlib.Omega.{arith}
 use borrow.Author.Tests.{leb-true, leb-false}
 use lib.Dec.{leb}
-use Rattle.rules.specs.Choice.{if◌then◌else◌}
 use Rattle.rules.specs.Dispatch.{Job, before, sooner, pick, earliest}
 use Rattle.rules.specs.Policy.{Ahead}
 use Rattle.rules.proofs.Order.{ahead_self, ahead_trans, before_true, before_false}

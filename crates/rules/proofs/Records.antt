@@ -1,5 +1,6 @@
 -- A record by its next field, whatever number of fields is allowed: each field that a comma follows leaves fewer bytes, so that one field more than
 -- there are bytes is never reached. And what is asked of a content, a name or a number, can be asked of it with its quotes doubled: neither has a quote.
+use Rattle.std.specs.Prelude.{if◌then◌else◌}
 use mathlib.Core.Path.{◌≡◌, refl, sym, ap, ◌∙◌}
 use Prim.Native.Nat.{ℕ, zero, suc, ◌+◌, ◌-◌, ◌*◌, ◌≤◌, ◌<◌}
 use native.Mathlib.Omega.{arith}
@@ -9,7 +10,6 @@ use mathlib.Core.Option.{Option, none, some}
 use lib.Dec.{eqb}
 use lib.ListN.{length}
 use borrow.Author.Tests.{eq-eqb, ne_eqb, eqb-true}
-use Rattle.rules.specs.Choice.{if◌then◌else◌}
 use Rattle.rules.specs.Text.{got, bad, after_key, digit, more_digits, read_number}
 use Rattle.rules.specs.Sheet.{mark, Field, content, no_field, byte, read_plain, read_quoted, after_quote, read_field, after_end, Step, more, last, no_step, last_of, followed, next_field, Record, fields, no_record, before, onward, record_within, read_record, name_of, none_left, is_name, whole, field_number}
 use Rattle.rules.specs.Sheets.{doubled}

@@ -1,4 +1,5 @@
 -- Refusals 1 to 4 are given exactly when document 01's table says.
+use Rattle.std.specs.Prelude.{if◌then◌else◌}
 use mathlib.Core.Path.{◌≡◌, refl, sym, ap, subst, ◌∙◌}
 use mathlib.Core.Logic.{◌↔◌}
 use mathlib.Core.Option.{Option, none, some}
@@ -11,7 +12,6 @@ use mathlib.Core.Bool.{Bool, true, false, not}
 use lib.Dec.{leb, ltb, eqb}
 use lib.ListN.{length, get_or}
 use borrow.Author.Tests.{leb-true, ltb-true, ltb-false, eqb-true, eqb-false, le-leb, lt-ltb, le-ltb, eq-eqb, ne_eqb}
-use Rattle.rules.specs.Choice.{if◌then◌else◌}
 use Rattle.rules.specs.Refusals.{number_of, ◌when◌, first_of}
 use Rattle.rules.specs.Numbers.{table_most, word_most}
 use Rattle.rules.specs.Table.{word_least, in_range, out_of_range, table_refusal, Ranged, FirstOut, Fine}

@@ -1,4 +1,5 @@
 -- A set that is written is read back, and a set that is read was written so.
+use Rattle.std.specs.Prelude.{if◌then◌else◌}
 use mathlib.Core.Path.{◌≡◌, refl, sym, ap, ap₂, ◌∙◌, subst}
 use Prim.Native.Nat.{ℕ, zero, suc, ◌+◌, ◌*◌, ◌/◌, ◌%◌, ◌≤◌, ◌<◌}
 use native.Mathlib.Omega.{arith}
@@ -8,7 +9,6 @@ use mathlib.Core.Option.{none}
 use lib.Dec.{leb}
 use lib.ListN.{length, get_or}
 use borrow.Author.Tests.{leb-true, le-leb}
-use Rattle.rules.specs.Choice.{if◌then◌else◌}
 use Rattle.rules.specs.Table.{table_refusal}
 use Rattle.rules.specs.Text.{Read, got, bad, Lines, took, stop, ahead, or_stop, key_of, tasks_key, read_line, read_lines, read_set, digits, line, write_lines, write_set}
 use Rattle.rules.proofs.Booleans.{both_true}

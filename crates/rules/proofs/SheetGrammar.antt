@@ -1,5 +1,6 @@
 -- A record is read exactly where one stands in the paper's words: what a field was read from stands there, plain or quoted, and what stands there before
 -- a comma, a line end or the end of the sheet is read; so field by field.
+use Rattle.std.specs.Prelude.{if◌then◌else◌}
 use mathlib.Core.Path.{◌≡◌, refl, sym, ap, ap₂, ◌∙◌, subst}
 use mathlib.Core.Logic.{◌↔◌}
 use Prim.Native.Nat.{ℕ, zero, suc, ◌<◌}
@@ -11,7 +12,6 @@ use mathlib.Core.Option.{Option, none, some}
 use lib.Dec.{eqb}
 use lib.ListN.{length}
 use borrow.Author.Tests.{ne_eqb, eqb-true, eqb-false}
-use Rattle.rules.specs.Choice.{if◌then◌else◌}
 use Rattle.rules.specs.Text.{after_key}
 use Rattle.rules.specs.Sheet.{mark, crlf, Field, content, no_field, byte, read_plain, read_quoted, after_quote, read_field, after_end, Step, more, last, no_step, last_of, followed, next_field, Record, fields, no_record, before, read_record}
 use Rattle.rules.specs.Sheets.{doubled, Stands, Commas, Begins}

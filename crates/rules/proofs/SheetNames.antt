@@ -1,5 +1,6 @@
 -- A sheet's names, header and numbers are the paper's: the tests say what its words say, both ways. A content is a name byte for byte; a name that is
 -- counted once has one column, and it is the one that is found; a header is good where the four names come once each; a number is a field's whole content.
+use Rattle.std.specs.Prelude.{if◌then◌else◌}
 use mathlib.Core.Path.{◌≡◌, refl, sym, ap, ◌∙◌}
 use Prim.Native.Nat.{ℕ, zero, suc, ◌+◌, ◌<◌}
 use native.Mathlib.Omega.{arith}
@@ -10,7 +11,6 @@ use mathlib.Core.Option.{Option, none, some}
 use lib.Dec.{eqb}
 use lib.ListN.{length, get_or}
 use borrow.Author.Tests.{eq-eqb, eqb-true}
-use Rattle.rules.specs.Choice.{if◌then◌else◌}
 use Rattle.rules.specs.Text.{bytes, Read, got, bad, after_key, read_number, digits}
 use Rattle.rules.specs.Sheet.{name_of, none_left, is_name, times, column_from, good_header, whole, field_number}
 use Rattle.rules.specs.Sheets.{Once}

@@ -1,5 +1,6 @@
 -- What reading a sheet gives is what the paper's words say, both ways: a task's record, the records of tasks, the first that is not as due, the whole sheet.
 -- What was read has its words, record after record; and where the words hold that is what is read, since each step of theirs is one of the reading.
+use Rattle.std.specs.Prelude.{if◌then◌else◌}
 use mathlib.Core.Path.{◌≡◌, refl, sym, ap, subst, ◌∙◌}
 use Prim.Native.Nat.{ℕ, zero, suc, ◌+◌, ◌-◌, ◌*◌, ◌/◌, ◌%◌, ◌≤◌}
 use native.Mathlib.Omega.{arith}
@@ -10,7 +11,6 @@ use mathlib.Core.Option.{Option, none, some}
 use lib.Dec.{eqb}
 use lib.ListN.{length, get_or, length-append}
 use borrow.Author.Tests.{eq-eqb, eqb-true}
-use Rattle.rules.specs.Choice.{if◌then◌else◌}
 use Rattle.rules.specs.Sheet.{Record, fields, no_record, read_record, name_of, column_from, good_header, columns_of, field_number, also, numbers_in, Row, row, no_row, row_of, read_row, Sheet, tasks, wrong, no_header, words_ahead, or_wrong, at_record, read_tasks, under_header, read_sheet}
 use Rattle.rules.specs.Sheets.{Begins, Once, Header, Under, Kernel, kernel, Tasks, NotDue}
 use Rattle.rules.proofs.Booleans.{impossible, true_is_not_false}

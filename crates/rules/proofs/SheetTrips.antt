@@ -1,5 +1,6 @@
 -- A sheet that is written from a table is read back to it: its first line stands as the header, with the names in their order, and each task's line as a
 -- record of four plain fields, its words' digits; digits are no marks.
+use Rattle.std.specs.Prelude.{if◌then◌else◌}
 use mathlib.Core.Path.{◌≡◌, refl, sym, ap, ◌∙◌}
 use Prim.Native.Nat.{ℕ, zero, suc, ◌+◌, ◌*◌, ◌/◌, ◌%◌, ◌≤◌, ◌<◌}
 use native.Mathlib.Decide.{dec_lt}
@@ -11,7 +12,6 @@ use mathlib.Core.Option.{none}
 use lib.Dec.{ltb}
 use lib.ListN.{length, length-append}
 use borrow.Author.Tests.{ne_eqb, lt-ltb, le-ltb}
-use Rattle.rules.specs.Choice.{if◌then◌else◌}
 use Rattle.rules.specs.Table.{table_refusal}
 use Rattle.rules.specs.Text.{bytes, after_key, digits_within, digits}
 use Rattle.rules.specs.Sheet.{mark, fields, read_record, name_of, is_name, times, column_from, good_header, columns_of, also, numbers_in, row, row_of, read_row, Sheet, tasks, words_ahead, or_wrong, at_record, read_tasks, under_header, read_sheet, write_records, write_sheet}

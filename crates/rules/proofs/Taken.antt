@@ -1,4 +1,5 @@
 -- A list with one job taken out, and what `without` leaves.
+use Rattle.std.specs.Prelude.{if◌then◌else◌}
 use mathlib.Core.Path.{◌≡◌, refl, sym, ap, ◌∙◌}
 use Prim.Native.Nat.{suc}
 use mathlib.Core.List.Memᴰ
@@ -7,7 +8,6 @@ use mathlib.Core.Bool.{Bool, true, false}
 use borrow.Author.Tests.{eqb-true, eq-eqb}
 use lib.Dec.{eqb}
 use lib.ListN.{length}
-use Rattle.rules.specs.Choice.{if◌then◌else◌}
 use Rattle.rules.specs.Dispatch.{Job, same, without}
 use Rattle.rules.proofs.Booleans.{both, both_true, both_false, true_is_not_false}
 

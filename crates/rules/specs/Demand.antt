@@ -1,7 +1,7 @@
 -- The verdict over all arrivals. Document 01, "The verdict over all arrivals"; document 02, 3/14.
-use Rattle.std.specs.Prelude.{ℕ, suc, ◌+◌, ◌-◌, ◌*◌, ◌/◌, max, ◌≤◌, ◌<◌, List, [], ◌∷◌, Bool, ◌&&◌, leb, ltb, eqb, length}
+use Rattle.std.specs.Prelude.{ℕ, suc, ◌+◌, ◌-◌, ◌*◌, ◌/◌, max, ◌≤◌, ◌<◌, List, [], ◌∷◌, Bool, ◌&&◌, leb, ltb, eqb, length, if◌then◌else◌}
 use Rattle.std.proofs.Math.Option.{Option, none, some}
-use Rattle.rules.specs.Choice.{if◌then◌else◌, least}
+use Rattle.rules.specs.Choice.{least}
 use Rattle.rules.specs.Numbers.{horizon}
 use Rattle.rules.specs.Task.{task_at}
 use Rattle.rules.specs.declared.Task.{Task}

@@ -1,7 +1,6 @@
 -- The dispatcher: least deadline first, equal deadlines to the lower task, never preempted, never idle. Document 01, "Dispatch".
-use Rattle.std.specs.Prelude.{ℕ, zero, suc, ◌+◌, max, min, List, [], ◌∷◌, Bool, ◌&&◌, ◌||◌, leb, ltb, eqb, length}
+use Rattle.std.specs.Prelude.{ℕ, zero, suc, ◌+◌, max, min, List, [], ◌∷◌, Bool, ◌&&◌, ◌||◌, leb, ltb, eqb, length, if◌then◌else◌}
 use Rattle.std.proofs.Math.Option.{Option, none, some}
-use Rattle.rules.specs.Choice.{if◌then◌else◌}
 
 -- a job: its task, its number within the task, its release, its deadline, its run time
 pub record Job : Type 0 where

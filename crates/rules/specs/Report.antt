@@ -1,7 +1,6 @@
 -- What the program prints. Document 01, "The program and the C call"; document 02, 3/14.
-use Rattle.std.specs.Prelude.{ℕ, zero, suc, List, [], ◌∷◌, ◌++◌, ltb, eqb, length}
+use Rattle.std.specs.Prelude.{ℕ, zero, suc, List, [], ◌∷◌, ◌++◌, ltb, eqb, length, if◌then◌else◌}
 use Rattle.std.proofs.Math.Option.{Option}
-use Rattle.rules.specs.Choice.{if◌then◌else◌}
 use Rattle.rules.specs.Numbers.{input_most}
 use Rattle.rules.specs.Refusals.{entry, carried_line, ◌when◌, answering, lent}
 use Rattle.rules.specs.Text.{bytes, digits, line, read_set, rest_read}

@@ -1,7 +1,6 @@
 -- What a sheet is, in the paper's words: fields, records, a header, tasks. Document 02, 2/14: RFC 4180, by the decisions of docs/DECISIONS.md.
-use Rattle.std.specs.Prelude.{◌≡◌, ℕ, suc, ◌<◌, eqb, length, get_or}
+use Rattle.std.specs.Prelude.{◌≡◌, ℕ, suc, ◌<◌, eqb, length, get_or, if◌then◌else◌}
 use mathlib.Core.List.{List, [], ◌∷◌, ◌++◌, Memᴰ}
-use Rattle.rules.specs.Choice.{if◌then◌else◌}
 use Rattle.rules.specs.Text.{bytes, digits}
 
 -- each quote of a content doubled

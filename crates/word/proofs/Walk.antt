@@ -1,5 +1,6 @@
 -- The walk over a word's digits: at each byte the judgement of what is left is that of the whole word. A value that is above the greatest only
 -- grows with more digits, and another byte makes the word wrong too, so that the walk may stop there.
+use Rattle.std.specs.Prelude.{if◌then◌else◌}
 use mathlib.Core.Path.{◌≡◌, refl, sym, ◌∙◌}
 use Prim.Native.Nat.{ℕ, ◌+◌, ◌-◌, ◌*◌, ◌≤◌, ◌<◌}
 use native.Mathlib.Numerals.{add-one}
@@ -10,7 +11,6 @@ use mathlib.Core.Option.{none}
 use lib.ListN.{length, drop, get_or, drop_of_length-le}
 use lib.Seq.{drop-cons}
 use borrow.Author.Tests.{le-leb, lt-leb}
-use Rattle.rules.specs.Choice.{if◌then◌else◌}
 use Rattle.rules.specs.Text.{digit}
 use Rattle.rules.proofs.ReadSteps.{empty, first_of}
 use Rattle.word.specs.Word.{value_from, judged, number_in}

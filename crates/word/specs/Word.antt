@@ -1,7 +1,6 @@
 -- A word that a program is called with, as a number.
-use Rattle.std.specs.Prelude.{ℕ, ◌+◌, ◌-◌, ◌*◌, List, [], ◌∷◌, leb}
+use Rattle.std.specs.Prelude.{ℕ, ◌+◌, ◌-◌, ◌*◌, List, [], ◌∷◌, leb, if◌then◌else◌}
 use Rattle.std.proofs.Math.Option.{Option, none, some}
-use Rattle.rules.specs.Choice.{if◌then◌else◌}
 use Rattle.rules.specs.Text.{digit}
 use Rattle.word.specs.declared.Decimal.{Decimal}
 use Rattle.word.specs.declared.Decimal.TheVariants.{Number, Wrong}

@@ -1,7 +1,6 @@
 -- The words for what is wrong with a sheet or with a text.
-use Rattle.std.specs.Prelude.{◌≡◌, ℕ, ◌+◌, ◌/◌, ◌%◌, ◌<◌, List, [], ◌++◌, eqb}
+use Rattle.std.specs.Prelude.{◌≡◌, ℕ, ◌+◌, ◌/◌, ◌%◌, ◌<◌, List, [], ◌++◌, eqb, if◌then◌else◌}
 use Prim.Native.String.{String}
-use Rattle.rules.specs.Choice.{if◌then◌else◌}
 use Rattle.rules.specs.Numbers.{table_most}
 use Rattle.rules.specs.Refusals.{number_of}
 use Rattle.rules.specs.Table.{word_least}

@@ -1,5 +1,5 @@
 // Standard input read to its end, and standard output written whole, however many calls that takes; what failed is told on standard error. The
-// streams are lent by the caller: what is promised holds of any reader and writer.
+// streams are lent by the caller: what is promised holds of any reader and writer. And how many arguments there are.
 #![tactic(auto)]
 
 ghost use Rattle.std.specs.Prelude.{◌≤◌, ◌<◌, length, take};
@@ -7,6 +7,7 @@ ghost use Rattle.std.specs.Io.KnownBytes.{Appends};
 ghost use Rattle.rules.specs.Numbers.{input_most};
 ghost use Rattle.stdio.specs.Input.{Within, Took, TookBeginning};
 
+use std::env::{Env, FillError};
 use std::io::{Error, ErrorKind, Read, Write};
 use std::thread;
 
@@ -119,5 +120,14 @@ pub fn print_bytes<W: Write, E: Write>(output: &mut W, error: &mut E, bytes: &[u
     let written = write_output(output, bytes);
     if written < bytes.len() {
         tell_write(error, written, bytes.len());
+    }
+}
+
+// Whether the program was called with an argument i; argument 0 is its own name.
+pub fn has_argument<A: Env>(rt: &A, i: usize) -> bool {
+    let mut none = [0u8; 0];
+    match rt.arg(i, &mut none) {
+        Err(FillError::NotPresent) => false,
+        Ok(_) | Err(FillError::TooLong) => true,
     }
 }

@@ -2,66 +2,71 @@
 #![tactic(auto)]
 
 use exchange::{MADE_MOST, Made};
-use libc::STDERR_FILENO;
 use rules::INPUT_MOST;
-use stdio::{Input, print_bytes, read_input, tell_read};
+use std::env::Env;
+use std::io::{Read, Write};
+use stdio::{Input, has_argument, print_bytes, read_input, tell, tell_read};
 use wording::Source;
 
 // Wrong use is told on standard error.
-fn tell_use() {
-    io::write_all(
-        STDERR_FILENO,
+fn tell_use<E: Write>(stderr: &mut E) {
+    tell(
+        stderr,
         b"tilecheck: call it as: tilecheck sheet [--back] [FILE]\n",
     );
 }
 
 // Whether argument 1 is --back.
-fn is_back() -> bool {
+fn is_back<A: Env>(rt: &A) -> bool {
     let mut word = [0u8; 6];
-    let n = os::arg(1, &mut word);
-    if os::errno() != 0 {
-        return false;
+    match rt.arg(1, &mut word) {
+        Ok(n) => header::is_name(&word[..n], b"--back"),
+        Err(_) => false,
     }
-    header::is_name(&word[..n], b"--back")
 }
 
 // What is made of an input is printed; or what is wrong is told on standard error.
-fn print_made(source: Source, input: &[u8]) {
+fn print_made<W: Write, E: Write>(stdout: &mut W, stderr: &mut E, source: Source, input: &[u8]) {
     let mut out = [0u8; MADE_MOST];
     let made = exchange::exchange(source, input, &mut out);
     match made {
-        Made::Bytes(all) => print_bytes(&out[..all]),
-        Made::Told(all) => {
-            io::write_all(STDERR_FILENO, &out[..all]);
-        }
+        Made::Bytes(all) => print_bytes(stdout, stderr, &out[..all]),
+        Made::Told(all) => tell(stderr, &out[..all]),
     }
 }
 
 // Standard input is made into the other.
-fn exchange_input(source: Source) {
+fn exchange_input<R: Read, W: Write, E: Write>(
+    stdin: &mut R,
+    stdout: &mut W,
+    stderr: &mut E,
+    source: Source,
+) {
     let mut input = [0u8; INPUT_MOST + 1];
-    let read = read_input(&mut input);
+    let read = read_input(stdin, &mut input);
     match read {
-        Input::Whole(n) => print_made(source, &input[..n]),
-        Input::TooLong => print_made(source, &input),
-        Input::Failed(n) => tell_read(n, b"made"),
+        Input::Whole(n) => print_made(stdout, stderr, source, &input[..n]),
+        Input::TooLong => print_made(stdout, stderr, source, &input),
+        Input::Failed(n) => tell_read(stderr, n, b"made"),
     }
 }
 
-fn main() {
-    let count = os::arg_count();
-    if count < 2 {
-        exchange_input(Source::Sheet);
+fn main(rt: HostRuntime) {
+    let mut stdin = rt.stdin();
+    let mut stdout = rt.stdout();
+    let mut stderr = rt.stderr();
+    if !has_argument(&rt, 1) {
+        exchange_input(&mut stdin, &mut stdout, &mut stderr, Source::Sheet);
         return;
     }
-    if count > 2 {
-        tell_use();
+    if has_argument(&rt, 2) {
+        tell_use(&mut stderr);
         return;
     }
-    let back = is_back();
+    let back = is_back(&rt);
     if back {
-        exchange_input(Source::Text);
+        exchange_input(&mut stdin, &mut stdout, &mut stderr, Source::Text);
         return;
     }
-    tell_use();
+    tell_use(&mut stderr);
 }

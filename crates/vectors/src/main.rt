@@ -2,9 +2,13 @@
 // seed, and what is printed of them.
 #![tactic(auto)]
 
-use libc::{STDIN_FILENO, STDOUT_FILENO};
+ghost use Rattle.std.specs.Prelude.{◌≡◌, ◌+◌, ◌≤◌, length};
+ghost use Rattle.rules.specs.Numbers.{input_most};
+
 use output::OUTPUT_MOST;
 use rules::INPUT_MOST;
+use std::io::{Read, Write};
+use stdio::{Input, read_input, write_output};
 use texts::TEXT_MOST;
 
 // The seed, and how many sets are drawn.
@@ -13,24 +17,37 @@ const SEED: u32 = 1;
 const DRAWN: u32 = 9;
 
 // What a text gives is printed.
-fn print_output(text: &[u8]) {
+fn print_output<W: Write>(stdout: &mut W, text: &[u8]) {
     let mut out = [0u8; OUTPUT_MOST];
     let all = output::output(text, &mut out);
-    io::write_all(STDOUT_FILENO, &out[..all]);
+    write_output(stdout, &out[..all]);
 }
 
 // The sets drawn are printed, then what they give.
-fn print_drawn() {
+fn print_drawn<W: Write>(stdout: &mut W) {
     let mut state = SEED;
     let mut text = [0u8; 9 * TEXT_MOST];
     let all = texts::put_sets(&mut state, 0, DRAWN, &mut text);
-    io::write_all(STDOUT_FILENO, &text[..all]);
-    print_output(&text[..all]);
+    write_output(stdout, &text[..all]);
+    print_output(stdout, &text[..all]);
 }
 
-fn main() {
-    let mut input = [0u8; INPUT_MOST];
-    let n = io::read_full(STDIN_FILENO, &mut input);
-    print_output(&input[..n]);
-    print_drawn();
+// How many bytes were read of a text on standard input, of which no more than the most that a text can have count.
+fn read_text<R: Read>(stdin: &mut R, buf: &mut [u8]) -> usize
+    requires { length buf.old ≡ input_most + 1 }
+    ensures { result ≤ input_most }
+{
+    match read_input(stdin, buf) {
+        Input::Whole(n) => n,
+        Input::TooLong => INPUT_MOST,
+        Input::Failed(n) => n,
+    }
+}
+
+fn main(rt: HostRuntime) {
+    let mut stdout = rt.stdout();
+    let mut input = [0u8; INPUT_MOST + 1];
+    let n = read_text(&mut rt.stdin(), &mut input);
+    print_output(&mut stdout, &input[..n]);
+    print_drawn(&mut stdout);
 }

@@ -1,25 +1,14 @@
--- What the answer of a scan tells, and that its promise leaves one outcome.
+-- The promise of a scan leaves one outcome.
 use mathlib.Core.Path.{◌≡◌, sym, ap, ◌∙◌}
-use Prim.Native.Nat.{ℕ, ◌*◌, ◌≤◌}
+use Prim.Native.Nat.{ℕ, ◌*◌}
 use native.Mathlib.Omega.{arith}
 use mathlib.Core.List.{List}
 use lib.ListN.{length, take}
 use lib.Seq.{length-take-le}
-use Rattle.rules.specs.Numbers.{task_most, table_most}
-use Rattle.rules.specs.Text.{Lines}
 use Rattle.rules.proofs.Booleans.{impossible}
-use Rattle.scan.specs.Scanned.{scanned, Few, Scans, ScansOne}
+use Rattle.scan.specs.Scanned.{scanned, Few, ScansOne}
 use Rattle.scan.specs.declared.Scan.{Scan}
 use Rattle.scan.specs.declared.Scan.TheVariants.{Whole, Stop}
-
-module _ {due : Lines} {answer : Scan} {words rest : List ℕ} (scans : Scans due answer words rest) where
-  -- what is due, by the answer
-  pub found : (r : Scan) → answer ≡ r → due ≡ scanned r words rest
-  found r e = sym scans.says ∙ ap (λ (x : Scan). scanned x words rest) e
-
-  -- of a set, the words are all there
-  pub in_words : (n : ℕ) → answer ≡ Whole n → table_most ≤ length words → 4 * n ≤ length words
-  in_words n e room = let few : n ≤ task_most = rw e at scans.few in omega arith
 
 -- one outcome
 pub scans_one : ScansOne

@@ -1,2 +1,2 @@
--- Laws of a scan: what its answer tells, and that its promise leaves one outcome.
+-- The law of a scan: its promise leaves one outcome.
 pub mod Found

@@ -27,7 +27,7 @@ loop-k-preserved c =
       as_long = simp length-set at.invariant.as_long;
       left_due =
           lines_more (4 * c.args.n) at.k at.words at.t.now c.loop-k-test.true c.in-Value.v c.task_line-number.new.rest.now (omega arith) (sym c.in-Value.ensures.says)
-              ∙ at.invariant.left_due;
+          ∙ at.invariant.left_due;
     }
 
 -- all are

@@ -45,6 +45,7 @@ fn number_in(answer: ReadAnswer) -> u32
 }
 
 // The answer that the two numbers of a reader stand for.
+#[tactic(auto, unfolding(crate::specs::Reader::read_answer_of))]
 pub fn read_answer(code: u32, number: u32) -> ReadAnswer
     ensures { result ≡ read_answer_of code number }
 {

@@ -1,0 +1,27 @@
+-- `texts::put_set` meets its contract: the table has room for eight tasks and out for 264 bytes, so that neither call is refused, and the words that
+-- are handed on are those of the set.
+use Rattle.std.proofs.Common.{sym, length-take-le, arith}
+use Rattle.rules.proofs.DrawnTexts.{draw_answers}
+use Rattle.texts.proofs.OneSet.{words_few, write_answers, set_put}
+use Rattle.texts.proofs.put_set.Goals as goal
+
+-- the draw is not refused
+pub returns-in_default : goal.returns-in_default
+returns-in_default c = absurd (c.in_default.not-Set _ (draw_answers (omega arith) c.draw_set_from-drawn.ensures))
+
+-- the words of the set lie in the table
+pub slice_bounds-table-end : goal.slice_bounds-table-end
+slice_bounds-table-end c = omega (arith, words_few (omega arith) c.draw_set_from-drawn.ensures c.in-Set.is, c.draw_set_from-drawn.auto.table)
+
+pub slice_bounds-write-end : goal.slice_bounds-write-end
+slice_bounds-write-end c =
+    let few = words_few (omega arith) c.draw_set_from-drawn.ensures c.in-Set.is in
+    sym (length-take-le _ _ (omega arith))
+
+-- the text is not refused
+pub returns-in_default-written : goal.returns-in_default-written
+returns-in_default-written c =
+    absurd (c.in_default-written.not-Written _ (write_answers (omega arith) c.draw_set_from-drawn.ensures c.in-Set.is c.requires c.write-written.ensures))
+
+pub returns : goal.returns
+returns c = set_put (omega arith) c.draw_set_from-drawn.ensures c.in-Set.is c.requires c.write-written.ensures c.in-Written.is

@@ -4,7 +4,7 @@
  *
  * Exit status: 0 it may be placed, 1 it may not, 2 there is no set to judge.
  *
- * Build, from the root of the repository, after `rt staticlib placement`:
+ * Build, from the root of the repository, after `tools/build placement_c`:
  *
  *   gcc -Wall -Wextra -Iinclude examples/placement.c target/staticlib/libplacement.a -o target/placement
  */

@@ -2,7 +2,7 @@
 //
 // Exit status: 0 it may be placed, 1 it may not, 2 there is no set to judge.
 //
-// Build, from the root of the repository, after `rt staticlib placement`:
+// Build, from the root of the repository, after `tools/build placement_c`:
 //
 //   g++ -Wall -Wextra -Iinclude examples/placement.cpp target/staticlib/libplacement.a -o target/placement++
 #include <iostream>

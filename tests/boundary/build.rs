@@ -1,4 +1,4 @@
-//! Links the two libraries below target/staticlib/, which `rt staticlib NAME` writes.
+//! Links the two libraries below target/staticlib/, which `tools/build NAME_c` writes.
 
 use std::path::Path;
 
@@ -9,7 +9,7 @@ fn main() {
     for name in ["probe", "placement"] {
         let library = folder.join(format!("lib{name}.a"));
         println!("cargo:rerun-if-changed={}", library.display());
-        assert!(library.is_file(), "{} is missing: run 'rt staticlib {name}'", library.display());
+        assert!(library.is_file(), "{} is missing: run 'tools/build {name}_c'", library.display());
         println!("cargo:rustc-link-lib=static={name}");
     }
 }

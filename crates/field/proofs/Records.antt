@@ -2,8 +2,6 @@
 use mathlib.Core.Path.{◌≡◌, refl, sym, ap, ◌∙◌}
 use Prim.Native.Nat.{ℕ, ◌<◌}
 use mathlib.Core.List.{List, [], ◌∷◌}
-use denote.Enum.Declared.{tag_of}
-use types.Run.{OneOf, miss}
 use lib.ListN.{length}
 use Rattle.rules.specs.Sheet.{next_field, Record, fields, no_record, before, read_record}
 use Rattle.rules.specs.Sheets.{doubled}
@@ -13,13 +11,12 @@ use Rattle.rules.proofs.FieldSteps.{stands_more, stands_last, stands_none}
 use Rattle.field.specs.Fields.{stepped}
 use Rattle.field.specs.declared.Next.{Next}
 use Rattle.field.specs.declared.Next.TheVariants.{More, Last, Wrong}
-use Rattle.field.specs.contracts.Next.{the_type}
 
 -- neither wrong nor the last
-pub is_more : (a : Next) → OneOf (0 ∷ 1 ∷ []) (tag_of the_type a) → OneOf (0 ∷ 2 ∷ []) (tag_of the_type a) → a ≡ More
-is_more More t u = refl
-is_more Last t u = absurd (miss (0 ∷ 2 ∷ []) 1 tt u)
-is_more Wrong t u = absurd (miss (0 ∷ 1 ∷ []) 2 tt t)
+pub is_more : (a : Next) → (a ≡ Wrong → ⊥) → (a ≡ Last → ⊥) → a ≡ More
+is_more More some not_last = refl
+is_more Last some not_last = absurd (not_last refl)
+is_more Wrong some not_last = absurd (some refl)
 
 -- what is left of a record after a field
 abbrev pub after_field : Next → List ℕ → Record
@@ -29,17 +26,17 @@ after_field Wrong rest = no_record
 
 module _ (s body rest : List ℕ) where
   -- a field is found: its content is before what is left
-  pub field_found : (a : Next) → OneOf (0 ∷ 1 ∷ []) (tag_of the_type a) → stepped a body rest ≡ standing_step (next_field s)
+  pub field_found : (a : Next) → (a ≡ Wrong → ⊥) → stepped a body rest ≡ standing_step (next_field s)
       → (c : List ℕ) × (body ≡ doubled c) × (read_record s ≡ before c (after_field a rest))
-  field_found More t e =
+  field_found More some e =
       let found = stands_more body rest (next_field s) e in
       (found.0, found.2, record_more s found.0 rest found.1)
-  field_found Last t e =
+  field_found Last some e =
       let found = stands_last body rest (next_field s) e in
       let c = found.0 in
       let alone : before c (fields [] rest) ≡ fields (c ∷ []) rest = sym (befores_none (before c (fields [] rest))) ∙ befores_more [] c (fields [] rest) ∙ befores_fields (c ∷ []) [] rest in
       (c, found.2, record_last s c rest found.1 ∙ sym alone)
-  field_found Wrong t e = absurd (miss (0 ∷ 1 ∷ []) 2 tt t)
+  field_found Wrong some e = absurd (some refl)
 
   -- none is
   pub none_found : (a : Next) → a ≡ Wrong → stepped a body rest ≡ standing_step (next_field s) → read_record s ≡ no_record

@@ -1,11 +1,8 @@
--- The sentences: there is room for each, and a refusal other than 4, 7, 13, 14 and 15 has no words.
-use mathlib.Core.Path.{◌≡◌, refl}
+-- The sentences: there is room for each.
 use Prim.Native.Nat.{ℕ, zero, suc, ◌+◌, ◌/◌, ◌%◌, ◌≤◌}
 use Prim.Native.String.{String}
 use native.Mathlib.Omega.{arith}
-use denote.Enum.Declared.{tag_of}
-use types.Run.{OneOf, miss}
-use mathlib.Core.List.{List, [], ◌∷◌, ◌++◌}
+use mathlib.Core.List.{List, ◌++◌}
 use lib.Dec.{eqb}
 use lib.ListN.{length, length-append}
 use Rattle.rules.specs.Refusals.{number_of}
@@ -14,30 +11,12 @@ use Rattle.rules.specs.Text.{bytes, digits}
 use Rattle.rules.specs.Sheet.{name_of}
 use Rattle.rules.specs.declared.Refusal.{Refusal}
 use Rattle.rules.specs.declared.Refusal.TheVariants.{NoWord, NotFours, TooManyWords, OutOfRange, BadEnd, TooShort, BadLine, NotMisses, NoHeader, BadRecord, NoRecord}
-use Rattle.rules.specs.contracts.Refusal.{the_type}
 use Rattle.rules.proofs.Booleans.{chosen}
 use Rattle.rules.proofs.Digits.{digits_most}
 use Rattle.wording.specs.Wording.{phrase, place, bad_record, wrong_in, sentence}
 use Rattle.wording.specs.declared.Source.{Source}
 
--- the refusals that the code gives no arm have no words
-abbrev pub others : List ℕ
-others = 0 ∷ 1 ∷ 2 ∷ 4 ∷ 5 ∷ 7 ∷ []
-
-pub no_words : (source : Source) (r : Refusal) → OneOf others (tag_of the_type r) → wrong_in source r ≡ []
-no_words source NoWord t = refl
-no_words source NotFours t = refl
-no_words source TooManyWords t = refl
-no_words source (OutOfRange i) t = absurd (miss others 3 tt t)
-no_words source BadEnd t = refl
-no_words source TooShort t = refl
-no_words source (BadLine l) t = absurd (miss others 6 tt t)
-no_words source NotMisses t = refl
-no_words source NoHeader t = absurd (miss others 8 tt t)
-no_words source (BadRecord l) t = absurd (miss others 9 tt t)
-no_words source NoRecord t = absurd (miss others 10 tt t)
-
--- HOW LONG THEY ARE: a number has at most ten digits
+-- a number has at most ten digits
 phrase_most : (before : String) (n : ℕ) (after : String) → length (phrase before n after) ≤ length (bytes before) + 10 + length (bytes after)
 phrase_most before n after = omega (arith, length-append (bytes before) (digits n ++ bytes after), length-append (digits n) (bytes after), digits_most n)
 

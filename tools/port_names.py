@@ -80,7 +80,7 @@ def rt(text):
 
 
 def md(text):
-    return SPAN.sub(lambda m: words(m[0]), text)
+    return SPAN.sub(lambda m: "`" + words(m[0][1:-1]) + "`", text)
 
 
 def with_result(m):

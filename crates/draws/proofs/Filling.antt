@@ -1,5 +1,5 @@
 -- The loop that fills a table: the first task stands there; after i tasks in all the others are those still to be drawn from the state.
-use Rattle.std.proofs.Common.{◌≡◌, ℕ, ◌+◌, ◌-◌, ◌*◌, ◌<◌, ◌≤◌, min, Bool, ◌&&◌, eqb, List, [], ◌∷◌, ◌++◌, length, take, drop, sym, refl, ap, ◌∙◌, ap₂, append_assoc, append-nil, arith, length-append, length-drop, take-append-drop, length-take-le, drop-drop, if◌then◌else◌}
+use Rattle.std.proofs.Common.{◌≡◌, ℕ, ◌+◌, ◌-◌, ◌*◌, ◌<◌, ◌≤◌, min, Bool, ◌&&◌, eqb, List, [], ◌∷◌, ◌++◌, length, take, drop, sym, refl, ap, ◌∙◌, ap₂, append_assoc, append-nil, arith, length-append, take-append-drop, length-take-le, drop-drop, if◌then◌else◌}
 use Rattle.rules.specs.declared.Task.{Task}
 use Rattle.rules.specs.Generator.{state_after, task_drawn, tasks_drawn, long_kernel, with_long, words_of}
 use Rattle.rules.proofs.Slices.{four_more}
@@ -53,11 +53,6 @@ module _ (s₀ n : ℕ) (asked : Bool) (table₀ : List ℕ) (d₀ : ℕ) where
           F.count,
           F.low,
         )
-
-    -- the table's length stays
-    pub filled_length : length table ≡ length table₀
-    filled_length =
-        ap length F.written ∙ omega (arith, length-append there (drop (4 * i) table₀), there_length, length-drop (4 * i) table₀, F.fits, F.most)
 
     -- one task more
     pub filled_more : {τ υ : Task} {s' d' : ℕ} {table' : List ℕ} → i < n → τ ≡ task_drawn s → s' ≡ state_after 4 s

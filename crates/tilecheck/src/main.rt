@@ -3,10 +3,11 @@
 
 ghost use Rattle.rules.specs.Report.{output};
 ghost use Rattle.stdio.specs.Input.{TookBeginning};
+ghost use Rattle.tilecheck.specs.Program.{PrintsOutput};
 
 use output::OUTPUT_MOST;
 use rules::INPUT_MOST;
-use std::io::Write;
+use std::io::{Read, Write};
 use stdio::{Input, print_bytes, read_input, tell_read};
 
 // What an input gives is printed.
@@ -18,14 +19,19 @@ fn print_output<W: Write, E: Write>(stdout: &mut W, stderr: &mut E, input: &[u8]
     print_bytes(stdout, stderr, &out[..all]);
 }
 
-fn main(rt: HostRuntime) {
+// THE PROGRAM, on any streams: what standard input gives is printed; one that cannot be read is told on standard error.
+fn judge_input<R: Read, W: Write, E: Write>(stdin: &mut R, stdout: &mut W, stderr: &mut E)
+    ensures { PrintsOutput (R.remaining stdin.old) (W.contents stdout.old) (W.contents stdout.new) }
+{
     let mut input = [0u8; INPUT_MOST + 1];
-    let mut stdout = rt.stdout();
-    let mut stderr = rt.stderr();
-    let read = read_input(&mut rt.stdin(), &mut input);
+    let read = read_input(stdin, &mut input);
     match read {
-        Input::Whole(n) => print_output(&mut stdout, &mut stderr, &input[..n]),
-        Input::TooLong => print_output(&mut stdout, &mut stderr, &input),
-        Input::Failed(n) => tell_read(&mut stderr, n, b"judged"),
+        Input::Whole(n) => print_output(stdout, stderr, &input[..n]),
+        Input::TooLong => print_output(stdout, stderr, &input),
+        Input::Failed(n) => tell_read(stderr, n, b"judged"),
     }
+}
+
+fn main(rt: HostRuntime) {
+    judge_input(&mut rt.stdin(), &mut rt.stdout(), &mut rt.stderr());
 }

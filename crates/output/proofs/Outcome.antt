@@ -7,8 +7,8 @@ use lib.ListN.{length, drop, length-append}
 use Rattle.rules.specs.Report.{output}
 use Rattle.output.specs.Output.{Outputs, OutputsOne}
 
-pub outputs-one : OutputsOne
-outputs-one input out m n e f p q = (p.says ∙ sym q.says, p.leaves ∙ sym q.leaves)
+pub outputs_one : OutputsOne
+outputs_one input out m n e f p q = (p.says ∙ sym q.says, p.leaves ∙ sym q.leaves)
 
-pub prints-within : {input out exit : List ℕ} {size : ℕ} → Outputs input out size exit → size ≤ length exit
-prints-within {input} {out} p = omega (arith, p.says, ap length p.leaves, length-append (output input) (drop (length (output input)) out))
+pub prints_within : {input out exit : List ℕ} {size : ℕ} → Outputs input out size exit → size ≤ length exit
+prints_within {input} {out} p = omega (arith, p.says, ap length p.leaves, length-append (output input) (drop (length (output input)) out))

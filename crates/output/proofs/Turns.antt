@@ -17,7 +17,7 @@ use Rattle.rules.proofs.Calls.{report_lines}
 use Rattle.rules.proofs.Printed.{rest_end, sets_last, sets_more, output_long, output_sets}
 use Rattle.rules.proofs.Lengths.{rest_fewer, lines_most}
 use Rattle.print.specs.Place.{Puts}
-use Rattle.output.specs.Output.{outputMost, Outputs}
+use Rattle.output.specs.Output.{output_most, Outputs}
 
 -- an input that is too long: its one line stands at the start
 pub too_long : (input old : List ℕ) {size : ℕ} {exit : List ℕ} → input_most < length input → Puts old 0 (bytes "toolong" ++ (10 ∷ [])) size exit → Outputs input old size exit
@@ -53,7 +53,7 @@ at_first input old h =
       printed = omega arith;
     }
 
-module _ (input old out : List ℕ) (number left at : ℕ) (so_far : SoFar input old out number left at) (whole : length input ≤ input_most) (room : outputMost ≤ length old) where
+module _ (input old out : List ℕ) (number left at : ℕ) (so_far : SoFar input old out number left at) (whole : length input ≤ input_most) (room : output_most ≤ length old) where
   -- what is left of the input
   abbrev pub text : List ℕ
   text = drop (length input - left) input
@@ -71,25 +71,25 @@ module _ (input old out : List ℕ) (number left at : ℕ) (so_far : SoFar input
     reported : Reports number text (drop at old) answer exit
     reported = rw (part (length input - left) input, lent_end so_far.lines (drop at old) out at so_far.many so_far.stands) at reports
 
-    due-report : Reports number text (drop at old) (Reported (length (set_lines number text)) (length (set_rest text))) (set_lines number text ++ drop (length (set_lines number text)) (drop at old))
-    due-report = report_lines number text (drop at old) (omega (arith, lines_most number text, length-drop at old, fits))
+    due_report : Reports number text (drop at old) (Reported (length (set_lines number text)) (length (set_rest text))) (set_lines number text ++ drop (length (set_lines number text)) (drop at old))
+    due_report = report_lines number text (drop at old) (omega (arith, lines_most number text, length-drop at old, fits))
 
     pub answers : answer ≡ Reported (length (set_lines number text)) (length (set_rest text))
-    answers = reported.says ∙ sym due-report.says
+    answers = reported.says ∙ sym due_report.says
 
     -- its lines stand after the others
     module _ (size rest : ℕ) (e : answer ≡ Reported size rest) where
       size_is : size ≡ length (set_lines number text)
       size_is = let f = sym e ∙ answers in cc
 
-      rest-is : rest ≡ length (set_rest text)
-      rest-is = let f = sym e ∙ answers in cc
+      rest_is : rest ≡ length (set_rest text)
+      rest_is = let f = sym e ∙ answers in cc
 
       pub size_most : size ≤ 83
       size_most = omega (arith, size_is, lines_most number text)
 
-      pub rest-less : 0 < rest → rest < left
-      rest-less h = omega (arith, rest-is, rest_fewer text (omega (arith, rest-is)), text_length)
+      pub rest_less : 0 < rest → rest < left
+      rest_less h = omega (arith, rest_is, rest_fewer text (omega (arith, rest_is)), text_length)
 
       abbrev pub lines : List ℕ
       lines = so_far.lines ++ set_lines number text
@@ -100,7 +100,7 @@ module _ (input old out : List ℕ) (number left at : ℕ) (so_far : SoFar input
       stands : take at out ++ (exit ++ drop (length out - at) (drop at out)) ≡ lines ++ drop (at + size) old
       stands =
           end_back so_far.lines (drop at old) out at so_far.many so_far.stands exit
-          ∙ ap (λ (l : List ℕ). so_far.lines ++ l) (reported.leaves ∙ sym due-report.leaves)
+          ∙ ap (λ (l : List ℕ). so_far.lines ++ l) (reported.leaves ∙ sym due_report.leaves)
           ∙ ap (λ (k : ℕ). so_far.lines ++ (set_lines number text ++ drop k (drop at old))) (sym size_is)
           ∙ ap (λ (l : List ℕ). so_far.lines ++ (set_lines number text ++ l)) (drop-drop size at old)
           ∙ sym (append_assoc so_far.lines (set_lines number text) (drop (at + size) old))
@@ -111,7 +111,7 @@ module _ (input old out : List ℕ) (number left at : ℕ) (so_far : SoFar input
       -- nothing is left: that is the output
       pub at_last : rest ≡ 0 → Outputs input old (at + size) (take at out ++ (exit ++ drop (length out - at) (drop at out)))
       at_last z =
-          let one = sets_last (length input + 2 - (number + 1)) number text (sym rest-is ∙ z) in
+          let one = sets_last (length input + 2 - (number + 1)) number text (sym rest_is ∙ z) in
           let all : lines ≡ output input =
           ap (λ (l : List ℕ). so_far.lines ++ l) (sym one ∙ ap (λ (k : ℕ). sets_lines k number text) (sym fuel)) ∙ so_far.due
           in
@@ -121,12 +121,12 @@ module _ (input old out : List ℕ) (number left at : ℕ) (so_far : SoFar input
       -- something is left: the next turn
       pub at_next : 0 < rest → SoFar input old (take at out ++ (exit ++ drop (length out - at) (drop at out))) (number + 1) rest (at + size)
       at_next h =
-          let fewer = rest_fewer text (omega (arith, rest-is)) in
-          let k : length input - rest ≡ length input - left + (length text - length (set_rest text)) = omega (arith, text_length, rest-is, so_far.first, so_far.taken) in
+          let fewer = rest_fewer text (omega (arith, rest_is)) in
+          let k : length input - rest ≡ length input - left + (length text - length (set_rest text)) = omega (arith, text_length, rest_is, so_far.first, so_far.taken) in
           let next : drop (length input - rest) input ≡ set_rest text =
           ap (λ (j : ℕ). drop j input) k ∙ sym (drop-drop (length text - length (set_rest text)) (length input - left) input) ∙ rest_end text
           in
-          let more = sets_more (length input + 2 - (number + 1)) number text (omega (arith, rest-is)) in
+          let more = sets_more (length input + 2 - (number + 1)) number text (omega (arith, rest_is)) in
           record {
             lines = lines;
             many = many;
@@ -140,6 +140,6 @@ module _ (input old out : List ℕ) (number left at : ℕ) (so_far : SoFar input
                 ∙ ap (λ (j : ℕ). sets_lines j number text) (sym fuel))
                 ∙ so_far.due;
             first = omega (arith, so_far.first);
-            taken = omega (arith, so_far.taken, rest-is, fewer, text_length);
+            taken = omega (arith, so_far.taken, rest_is, fewer, text_length);
             printed = omega (arith, so_far.printed, size_most);
           }

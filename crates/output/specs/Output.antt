@@ -3,8 +3,8 @@ use Rattle.std.specs.Prelude.{◌≡◌, ℕ, List, ◌++◌, length, drop}
 use Rattle.rules.specs.Report.{output}
 
 -- the most bytes: 1,366 sets' lines of 83 bytes
-abbrev pub outputMost : ℕ
-outputMost = 113378
+abbrev pub output_most : ℕ
+output_most = 113378
 
 -- the output of an input stands at the start of the lent bytes, which stay the same beyond it; the answer is its length
 pub record Outputs (input out : List ℕ) (size : ℕ) (exit : List ℕ) : Type 0 where

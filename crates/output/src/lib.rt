@@ -3,7 +3,7 @@
 
 ghost use Rattle.std.specs.Prelude.{◌≤◌, length};
 ghost use Rattle.rules.specs.Numbers.{input_most};
-ghost use Rattle.output.specs.Output.{outputMost, Outputs};
+ghost use Rattle.output.specs.Output.{output_most, Outputs};
 
 use rules::{INPUT_MOST, ReportAnswer};
 
@@ -12,7 +12,7 @@ pub const OUTPUT_MOST: usize = 1366 * report::LINES_MOST;
 
 // The lines of all sets, each read from where the one before it ended, until nothing is left.
 fn put_sets(input: &[u8], out: &mut [u8]) -> usize
-    requires { (length input.now ≤ input_most) × (outputMost ≤ length out.old) }
+    requires { (length input.now ≤ input_most) × (output_most ≤ length out.old) }
     ensures { Outputs input.now out.old result out.new }
 {
     let mut number: u32 = 1;
@@ -36,7 +36,7 @@ fn put_sets(input: &[u8], out: &mut [u8]) -> usize
 
 // THE PROGRAM'S OUTPUT for an input goes to the start of out; the answer is its length.
 pub fn output(input: &[u8], out: &mut [u8]) -> usize
-    requires { outputMost ≤ length out.old }
+    requires { output_most ≤ length out.old }
     ensures { Outputs input.now out.old result out.new }
 {
     if input.len() > INPUT_MOST {

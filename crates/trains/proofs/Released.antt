@@ -1,7 +1,7 @@
 -- Which jobs a train has, by the tests that the code makes: job q comes exactly if its release is before the end, or its deadline within the length.
-use mathlib.Core.Path.{◌≡◌, ap, subst}
+use mathlib.Core.Path.{◌≡◌, subst}
 use Prim.Native.Nat.{ℕ, ◌+◌, ◌*◌, ◌^◌, ◌≤◌, ◌<◌}
-use native.Mathlib.Nat.{mul-le-mul, zero-mul}
+use native.Mathlib.Nat.{mul-le-mul}
 use native.Mathlib.Omega.{arith}
 use Rattle.rules.specs.Task.{Sound}
 use Rattle.rules.specs.Jobs.{Train}
@@ -9,7 +9,7 @@ use Rattle.rules.specs.declared.Task.{Task}
 use Rattle.rules.proofs.Booleans.{impossible, split}
 use Rattle.rules.proofs.Members.{count_before_law, count_within_law}
 use Rattle.trains.specs.declared.Release.TheVariants.{At, Never}
-use Rattle.trains.specs.Releases.{released_before, due_within, Coming, Comes, ComesOnce}
+use Rattle.trains.specs.Releases.{released_before, due_within, Coming, Comes}
 
 module _ (x : Train) (T q : ℕ) where
   -- the job comes
@@ -58,10 +58,3 @@ module _ (τ : Task) (sound : Sound τ) (q : ℕ) where
     pub within_never : L < τ.D + q * τ.T → Comes (due_within first L τ) τ.T q Never
     within_never h =
         said_never (due_within first L τ) τ.T q (split (due_within first L τ).count q (λ g. g) (λ g. absurd (omega (arith, (count_within_law L q τ sound.t_pos).0 g))))
-
-module _ (q : ℕ) where
-  pub once_at : q ≡ 0 → ComesOnce q (At 0)
-  once_at e T = said_at _ T q 0 (record { live = omega arith; when = omega (arith, ap (λ (x : ℕ). x * T) e, zero-mul T); few = omega arith; early = omega arith })
-
-  pub once_never : 1 ≤ q → ComesOnce q Never
-  once_never h T = said_never _ T q h

@@ -4,7 +4,7 @@ use Prim.Native.Nat.{ℕ, ◌*◌, ◌/◌, ◌≤◌, ◌<◌}
 use native.Mathlib.Omega.{arith}
 use mathlib.Core.List.{List}
 use mathlib.Core.Option.{Option, none, some}
-use lib.ListN.{length, take, drop, length-append}
+use lib.ListN.{length, take, drop}
 use lib.Seq.{take_at}
 use borrow.Author.Tests.{lt-ltb, le-ltb}
 use Rattle.rules.specs.Numbers.{table_most, input_most}
@@ -21,7 +21,7 @@ use Rattle.exchange.specs.Exchange.{reading_refusal, words_in, written, Outcome,
 use Rattle.wording.specs.declared.Source.{Source}
 use Rattle.wording.specs.Wording.{sentence, too_long, InTable}
 use Rattle.exchange.specs.declared.Made.{Made}
-use Rattle.exchange.proofs.Tellable.{words_fours, reading_tellable, table_tellable}
+use Rattle.exchange.proofs.Tellable.{words_fours, table_tellable}
 
 -- the readers, into a table with room for 64 tasks
 module _ (input table : List ℕ) (room : table_most ≤ length table) {exit : List ℕ} where
@@ -72,9 +72,6 @@ module _ (source : Source) (input : List ℕ) where
         refusal_is =
             was_refused ReadAnswer.Refused _ (λ s f. impossible cc) (λ s t f. cc) (reading_refusal source input) r (sym e ∙ reads.says)
 
-        pub unread_names : InTable r
-        unread_names = (reading_tellable source input r refusal_is).named
-
         pub when_unread : {out exit : List ℕ} {a : Made} → Gives (told (sentence source r)) out a exit → Becomes out a exit
         when_unread {out} {exit} {a} g = subst (λ (o : Outcome). Gives o out a exit) (is_unread r refusal_is) g
 
@@ -94,9 +91,6 @@ module _ (source : Source) (input : List ℕ) where
 
         stand : words ≡ lent none (words_in source input) table
         stand = reads.leaves ∙ ap (λ (o : Option Refusal). lent o (words_in source input) table) done.0
-
-        pub words_within : 4 * n ≤ length words
-        words_within = omega (arith, count_is, ap length stand, length-append (words_in source input) (drop (length (words_in source input)) table))
 
         words_are : take (4 * n) words ≡ words_in source input
         words_are = ap (take (4 * n)) stand ∙ take_at (words_in source input) (drop (length (words_in source input)) table) (4 * n) (sym count_is)

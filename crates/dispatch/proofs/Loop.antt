@@ -3,7 +3,7 @@ use mathlib.Core.Path.{◌≡◌, refl, sym, ap, ap₂, ◌∙◌}
 use Prim.Native.Nat.{ℕ, suc, ◌+◌, ◌-◌, ◌*◌, ◌^◌, ◌≤◌, ◌<◌}
 use native.Mathlib.Omega.{arith}
 use mathlib.Core.List.{List, [], ◌∷◌, ◌++◌, append_assoc, append-nil}
-use lib.ListN.{length, get_or, take, drop, length-append, length-drop, length-set}
+use lib.ListN.{length, get_or, take, drop, length-append, length-set}
 use lib.Seq.{take_at, drop_at, drop-drop}
 use Rattle.rules.specs.Dispatch.{Job, Row, rows, dispatch, late_job, row_words}
 use Rattle.rules.specs.Task.{tasks_of}
@@ -59,12 +59,6 @@ module _ (w : List ℕ) (plan : Plan) (out₀ : List ℕ) (m n : ℕ) (ok : Vali
       }
 
   module _ (out nx : List ℕ) (t : ℕ) (l : Lateness) (k : ℕ) (S : State w plan out₀ m n out nx t l k) where
-    -- the buffer's length stays
-    pub state_length : length out ≡ length out₀
-    state_length =
-        ap length S.written
-        ∙ omega (arith, length-append (row_words S.done) (drop (4 * k) out₀), length_row_words S.done, length-drop (4 * k) out₀, S.fits, S.most, S.count)
-
     pub state_more : k < n → (x : Turn) → Chosen w plan nx t m 0 x → (q e : ℕ) → q ≡ get_or nx x.task 0 → e ≡ x.start + (task_in w x.task).C
         → (l' : Lateness) → l' ≡ noting l x.task q x.due e → (out' : List ℕ)
         → out' ≡ take (4 * k) out ++ (x.task ∷ q ∷ x.start ∷ e ∷ drop (4 * k + 4) out)

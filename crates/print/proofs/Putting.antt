@@ -1,7 +1,6 @@
 -- Bytes put at a place of a list: one by one, one after another, a number's digits from the last, a line; and that a call has one outcome.
 use mathlib.Core.Path.{◌≡◌, sym, ap, ap₂, ◌∙◌, subst}
 use Prim.Native.Nat.{ℕ, zero, suc, ◌+◌, ◌-◌, ◌/◌, ◌%◌, ◌≤◌, ◌<◌}
-use native.Mathlib.Numerals.{add-one}
 use native.Mathlib.Omega.{arith}
 use mathlib.Core.List.{List, [], ◌∷◌, ◌++◌, append_assoc}
 use lib.ListN.{length, take, drop, set, length-append, take-append-drop}
@@ -26,10 +25,6 @@ put_start l vs = let e : 0 + length vs ≡ length vs = omega arith in ap (λ (k 
 -- no digit
 pub put_none : (l : List ℕ) (at i v : ℕ) → i ≡ 0 → put l at (lasts i v) ≡ l
 put_none l at i v e = rw (e, lasts_none v) (put_nil l at)
-
--- one byte
-pub put_one : (l : List ℕ) (at b : ℕ) → at < length l → set l at b ≡ put l at (b ∷ [])
-put_one l at b h = set_split l at b h ∙ ap (λ (k : ℕ). take at l ++ (b ∷ drop k l)) (sym (add-one at))
 
 -- the last byte, put before the others
 pub put_last : (l : List ℕ) (at : ℕ) (vs : List ℕ) (b k : ℕ) → length vs ≡ k → at + k < length l → put (set l (at + k) b) at vs ≡ put l at (vs ++ (b ∷ []))

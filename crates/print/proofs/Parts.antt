@@ -47,10 +47,6 @@ module _ {whole out rest : List ℕ} {at : ℕ} (a b : List ℕ) (remains : Rema
 pub none_remains : {whole out rest : List ℕ} {at : ℕ} → Remains whole out at rest → rest ≡ [] → out ≡ whole
 none_remains {whole} {out} {rest} {at} remains none = sym (put_nil out at) ∙ ap (put out at) (sym none) ∙ remains.makes
 
--- no bytes at all
-pub nothing : (old : List ℕ) (at : ℕ) → Puts old at [] at old
-nothing old at = record { says = omega arith; leaves = sym (put_nil old at) }
-
 -- bytes put at the start of a page, and from there at the start of another list
 pub by_page : {blank page old exit : List ℕ} {size last : ℕ} (vs : List ℕ) → Puts blank 0 vs size page → Puts old 0 (take size page) last exit
     → exit ≡ vs ++ drop (length vs) old

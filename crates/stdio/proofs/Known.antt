@@ -1,9 +1,10 @@
 -- Bytes that are known, of a reader and a writer: one more call's bytes stand behind those of the calls before.
-use Rattle.std.proofs.Common.{◌≡◌, ℕ, ◌+◌, ◌-◌, ◌≤◌, List, ◌++◌, Option, None, Some, length, take, drop, sym, ap, subst, ◌∙◌, append_assoc, length-take-le}
+use Rattle.std.proofs.Common.{◌≡◌, ℕ, ◌+◌, ◌-◌, ◌≤◌, List, [], ◌++◌, Option, None, Some, length, take, drop, sym, ap, subst, min, ◌∙◌, append_assoc, append-nil, arith, length-take-le}
 use Rattle.std.specs.Io.KnownBytes.{Appends, Consumes}
+use Rattle.stdio.specs.Input.{TookBeginning}
 use borrow.Rule.Slice.PartMut.{put_mid, post_of}
-use Rattle.std.proofs.Math.Seq.{take-append-add}
-use Rattle.std.proofs.lemmas.List.{take_rest}
+use Rattle.std.proofs.Math.Seq.{take-append-add, take-length}
+use Rattle.std.proofs.lemmas.List.{take_min, take_rest}
 use lib.Seq.{take-add, take-append-le}
 
 -- a reader that gave one part and then another gave both
@@ -34,3 +35,21 @@ pub written_more : (a b c : Option (List ℕ)) (bytes : List ℕ) (at n : ℕ) �
 written_more a b c bytes at n before more =
     let rest : Appends b c (take n (drop at bytes)) = subst (λ (l : List ℕ). Appends b c (take n l)) (take_rest bytes at) more in
     subst (Appends a c) (sym (take-add at n bytes)) (appends_both a b c _ _ before rest)
+
+-- a writer that took all of one part and a beginning of the next took a beginning of both and of what follows them
+pub beginning_after : (a b c : Option (List ℕ)) (done part rest all : List ℕ) → Appends a b done → TookBeginning b c part → all ≡ done ++ (part ++ rest) → TookBeginning a c all
+beginning_after a b c done part rest all before (n, more) e =
+    let m = min n (length part) in
+    let within : m ≤ length part = omega arith in
+    let front : take (length done + m) all ≡ done ++ take n part =
+    ap (take (length done + m)) e ∙ take-append-add done (part ++ rest) m ∙ ap (λ l. done ++ l) (take-append-le m part rest within ∙ take_min n part) in
+    (length done + m, subst (Appends a c) (sym front) (appends_both a b c _ _ before more))
+
+-- a writer that took nothing
+pub appends_none : (a : Option (List ℕ)) → Appends a a []
+appends_none None = tt
+appends_none (Some x) = sym (append-nil x)
+
+-- all of the bytes are a beginning of them
+pub beginning_all : (a b : Option (List ℕ)) (all : List ℕ) → Appends a b all → TookBeginning a b all
+beginning_all a b all took = (length all, subst (Appends a b) (sym (take-length all)) took)

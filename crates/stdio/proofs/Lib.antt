@@ -1,3 +1,3 @@
 -- What the calls on standard input tell their callers.
-mod Known
+pub mod Known
 pub mod Reading

@@ -2,7 +2,9 @@
 #![tactic(auto)]
 
 ghost use Rattle.std.specs.Prelude.{◌≡◌, ◌+◌, ◌^◌, ◌≤◌, min};
-ghost use Rattle.rules.specs.Generator.{state_after_sets};
+ghost use Rattle.rules.specs.Generator.{state_after_sets, generated};
+ghost use Rattle.stdio.specs.Input.{TookBeginning};
+ghost use Rattle.tilegen.specs.Pieces.{PrintsPiece};
 
 use std::env::Env;
 use std::io::Write;
@@ -67,7 +69,8 @@ fn print_piece<W: Write, E: Write>(
     many: u32,
 ) -> bool
     requires { (number + many ≤ 2 ^ 32) × (many ≤ 100) }
-    ensures { state.new ≡ state_after_sets many state.old }
+    ensures moved { state.new ≡ state_after_sets many state.old }
+    ensures printed { PrintsPiece result (W.contents stdout.old) (W.contents stdout.new) (generated many number state.old) }
 {
     let mut out = [0u8; PIECE_BYTES];
     let all = texts::put_sets(state, number, many, &mut out);
@@ -80,7 +83,9 @@ fn print_piece<W: Write, E: Write>(
 }
 
 // The sets are printed, a piece at a time.
-fn print_sets<W: Write, E: Write>(stdout: &mut W, stderr: &mut E, seed: u32, count: u32) {
+fn print_sets<W: Write, E: Write>(stdout: &mut W, stderr: &mut E, seed: u32, count: u32)
+    ensures { TookBeginning (W.contents stdout.old) (W.contents stdout.new) (generated count 0 seed) }
+{
     let mut state = seed;
     let mut number: u32 = 0;
     while number < count {

@@ -1,0 +1,2 @@
+-- The pieces that are printed, one after another.
+mod Following

@@ -1,3 +1,3 @@
--- Laws of the probes: that room decides, and the bytes that a reading used.
+-- Laws of the probes: that each leaves one outcome, and the bytes that a reading used.
 pub mod Rooms
 mod Used

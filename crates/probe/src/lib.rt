@@ -1,7 +1,7 @@
 // Every call with plain numbers at its boundary, for tests and benchmarks: a number is returned, and what the answer
 // carries goes to the start of out. A refusal is its number, with what it carries. An out shorter than 4 words gets 999,
 // and nothing is done. `probe_c` hands each to C.
-#![tactic(auto)]
+#![tactic(auto, unfolding(crate::specs::Probe::by_room))]
 
 ghost use Rattle.std.specs.Prelude.{◌≡◌, ◌-◌, length};
 ghost use Rattle.rules.specs.Answers.{read_answer, read_table, read_rest, write_answer, write_buffer, read_sheet_answer, read_sheet_table, write_sheet_answer, write_sheet_buffer, schedule_answer, schedule_buffer, verdict_answer, pattern_answer, pattern_buffer};

@@ -1,7 +1,6 @@
 -- What the loops and calls on one line lean on, beside the laws of the definitions that read; and that each promise leaves one outcome.
 use mathlib.Core.Path.{◌≡◌, refl, sym, ap, ◌∙◌}
 use Prim.Native.Nat.{ℕ, suc, ◌+◌, ◌-◌, ◌*◌, ◌^◌, ◌≤◌, ◌<◌}
-use native.Mathlib.Nat.{pow-le-pow_right}
 use native.Mathlib.Omega.{arith}
 use mathlib.Core.List.{List}
 use mathlib.Core.Bool.{Bool, true, false}
@@ -15,9 +14,6 @@ pub value_is_not_wrong : {A : Type 0} {v : ℕ} → Value v ≡ Wrong → A
 value_is_not_wrong e = let z : ◌≡◌ {A = ℕ} 0 1 = cc in absurd (omega arith)
 
 -- what is read is below 10 to the number of digits
-pub room : (n v : ℕ) → n ≤ 4 → v < 10 ^ (5 - n) → v < 100000
-room n v h l = let m = pow-le-pow_right {n = 10} (omega arith) {i = 5 - n} {j = 5} (omega arith) in omega arith
-
 pub room_step : (n v d : ℕ) → 0 < n → n ≤ 4 → d < 10 → v < 10 ^ (5 - n) → v * 10 + d < 10 ^ (5 - (n - 1))
 room_step n v d p h m l = let e : 5 - (n - 1) ≡ suc (5 - n) = omega arith in rw e (omega arith)
 

@@ -55,7 +55,7 @@ returns-then-n-count c =
     let stored = number_stored _ _ _ _ _ _ _ _ _ next.result Last c.requires.1 c.in_default.not-Wrong next.ensures.says so_far.3 c.in-Last.is c.if-not-stored.ensures in
     record {
       four = c.store_number-stored.ensures.four ∙ so_far.1;
-      says = sym (miscounted _ _ _ c.requires.1 stored _ refl c.if-n-count.true);
+      says = sym (miscounted _ _ _ c.requires.1 stored _ refl (λ e. omega arith));
       keeps = λ e. ap (λ x. x.now) so_far.0;
     }
 
@@ -68,7 +68,7 @@ returns-in-Last c =
     let stored = number_stored _ _ _ _ _ _ _ _ _ next.result Last c.requires.1 c.in_default.not-Wrong next.ensures.says so_far.3 c.in-Last.is c.if-not-stored.ensures in
     record {
       four = four;
-      says = sym (complete _ _ _ c.requires.1 stored _ refl c.if-n-count.false four);
+      says = sym (complete _ _ _ c.requires.1 stored _ refl (omega arith) four);
       keeps = λ e. true_is_not_false e;
     }
 

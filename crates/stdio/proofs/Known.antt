@@ -1,7 +1,8 @@
 -- Bytes that are known, of a reader and a writer: one more call's bytes stand behind those of the calls before.
 use Rattle.std.proofs.Common.{◌≡◌, ℕ, ◌+◌, ◌-◌, ◌≤◌, List, [], ◌++◌, Option, None, Some, length, take, drop, sym, ap, subst, min, ◌∙◌, append_assoc, append-nil, arith, length-take-le}
 use Rattle.std.specs.Io.KnownBytes.{Appends, Consumes}
-use Rattle.stdio.specs.Input.{TookBeginning}
+use Rattle.stdio.specs.Input.{TookBeginning, Wrote}
+use Rattle.stdio.specs.declared.Written.{Written}
 use borrow.Rule.Slice.PartMut.{put_mid, post_of}
 use Rattle.std.proofs.Math.Seq.{take-append-add, take-length}
 use Rattle.std.proofs.lemmas.List.{take_min, take_rest}
@@ -53,3 +54,9 @@ appends_none (Some x) = sym (append-nil x)
 -- all of the bytes are a beginning of them
 pub beginning_all : (a b : Option (List ℕ)) (all : List ℕ) → Appends a b all → TookBeginning a b all
 beginning_all a b all took = (length all, subst (Appends a b) (sym (take-length all)) took)
+
+-- what was written is a beginning, whatever stopped it
+pub beginning_written : (a b : Option (List ℕ)) (written : Written) (bytes : List ℕ) → Wrote a b written bytes → TookBeginning a b bytes
+beginning_written a b Written.Whole bytes wrote = beginning_all a b bytes wrote
+beginning_written a b (Written.Cut n) bytes wrote = (n, wrote.1)
+beginning_written a b (Written.Unread n) bytes wrote = (n, wrote.1)

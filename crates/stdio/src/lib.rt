@@ -2,17 +2,20 @@
 // streams are lent by the caller: what is promised holds of any reader and writer. And how many arguments there are.
 #![tactic(auto)]
 
-ghost use Rattle.std.specs.Prelude.{◌≤◌, ◌<◌, length, take};
-ghost use Rattle.std.specs.Io.KnownBytes.{Appends};
+ghost use Rattle.std.specs.Prelude.{◌<◌, length};
 ghost use Rattle.rules.specs.Numbers.{input_most};
-ghost use Rattle.stdio.specs.Input.{Within, Took, TookBeginning};
+ghost use Rattle.stdio.specs.Input.{Within, Took, Wrote, TookBeginning};
 
 use std::env::{Env, FillError};
 use std::io::{Error, ErrorKind, Read, Write};
+use std::process::ExitCode;
 use std::thread;
 
 // How often in a row a call that moved nothing is tried again.
 const TRIES: u32 = 10000000;
+
+// 128 and the number of the signal for a reader that went away.
+const UNREAD_STATUS: u8 = 141;
 
 // What was read of standard input: all of it, so many bytes; or it fills the buffer; or a read failed after so many.
 #[derive(Clone, Copy)]
@@ -20,6 +23,22 @@ pub enum Input {
     Whole(usize),
     TooLong,
     Failed(usize),
+}
+
+// What was written of bytes on standard output: all of them; or so many, before a write failed; or so many, before nobody was there to read them.
+#[derive(Clone, Copy)]
+pub enum Written {
+    Whole,
+    Cut(usize),
+    Unread(usize),
+}
+
+// Whether a write failed because nobody is there to read.
+fn is_unread(why: &Error) -> bool {
+    match why.kind() {
+        ErrorKind::BrokenPipe => true,
+        _ => false,
+    }
 }
 
 // Whether the call that just failed is worth another try: it was interrupted, or it would have had to wait. Then others may run first.
@@ -60,29 +79,39 @@ pub fn read_input<R: Read>(input: &mut R, buf: &mut [u8]) -> Input
     Input::TooLong
 }
 
-// How many of the bytes reached standard output, however many writes that takes.
-pub fn write_output<W: Write>(output: &mut W, bytes: &[u8]) -> usize
-    ensures within { result ≤ length bytes.now }
-    ensures wrote { Appends (W.contents output.old) (W.contents output.new) (take result bytes.now) }
+// The bytes are written to standard output, however many writes that takes.
+pub fn write_output<W: Write>(output: &mut W, bytes: &[u8]) -> Written
+    ensures { Wrote (W.contents output.old) (W.contents output.new) result bytes.now }
 {
     let mut at: usize = 0;
     let mut tries = TRIES;
     while at < bytes.len() {
         match output.write(&bytes[at..]) {
-            Ok(0) => return at,
+            Ok(0) => return Written::Cut(at),
             Ok(more) => {
                 at += more;
                 tries = TRIES;
             }
             Err(why) => {
+                if is_unread(&why) {
+                    return Written::Unread(at);
+                }
                 if tries == 0 || !may_try_again(&why) {
-                    return at;
+                    return Written::Cut(at);
                 }
                 tries -= 1;
             }
         }
     }
-    at
+    Written::Whole
+}
+
+// The exit status of a program that wrote so much: where its reader went away, the one that a shell gives a program which is ended by that.
+pub fn status_of(written: Written) -> ExitCode {
+    match written {
+        Written::Whole | Written::Cut(_) => ExitCode::SUCCESS,
+        Written::Unread(_) => ExitCode::from(UNREAD_STATUS),
+    }
 }
 
 // These words on standard error. Where they cannot be told, nobody is there to tell it to.
@@ -113,14 +142,16 @@ fn tell_write<E: Write>(error: &mut E, written: usize, all: usize) {
     tell(error, b" bytes were written\n");
 }
 
-// The bytes are printed on standard output; where they are not written whole, that is told.
-pub fn print_bytes<W: Write, E: Write>(output: &mut W, error: &mut E, bytes: &[u8])
+// The bytes are printed on standard output; where they are not written whole, that is told. The answer is the program's exit status.
+pub fn print_bytes<W: Write, E: Write>(output: &mut W, error: &mut E, bytes: &[u8]) -> ExitCode
     ensures { TookBeginning (W.contents output.old) (W.contents output.new) bytes.now }
 {
     let written = write_output(output, bytes);
-    if written < bytes.len() {
-        tell_write(error, written, bytes.len());
+    match written {
+        Written::Whole => {}
+        Written::Cut(n) | Written::Unread(n) => tell_write(error, n, bytes.len()),
     }
+    status_of(written)
 }
 
 // Whether the program was called with an argument i; argument 0 is its own name.

@@ -8,19 +8,24 @@ ghost use Rattle.tilecheck.specs.Program.{PrintsOutput};
 use output::OUTPUT_MOST;
 use rules::INPUT_MOST;
 use std::io::{Read, Write};
+use std::process::ExitCode;
 use stdio::{Input, print_bytes, read_input, tell_read};
 
 // What an input gives is printed.
-fn print_output<W: Write, E: Write>(stdout: &mut W, stderr: &mut E, input: &[u8])
+fn print_output<W: Write, E: Write>(stdout: &mut W, stderr: &mut E, input: &[u8]) -> ExitCode
     ensures { TookBeginning (W.contents stdout.old) (W.contents stdout.new) (output input.now) }
 {
     let mut out = [0u8; OUTPUT_MOST];
     let all = output::output(input, &mut out);
-    print_bytes(stdout, stderr, &out[..all]);
+    print_bytes(stdout, stderr, &out[..all])
 }
 
-// THE PROGRAM, on any streams: what standard input gives is printed; one that cannot be read is told on standard error.
-fn judge_input<R: Read, W: Write, E: Write>(stdin: &mut R, stdout: &mut W, stderr: &mut E)
+// THE PROGRAM, on any streams: what standard input gives is printed; one that cannot be read is told on standard error. The answer is the exit status.
+fn judge_input<R: Read, W: Write, E: Write>(
+    stdin: &mut R,
+    stdout: &mut W,
+    stderr: &mut E,
+) -> ExitCode
     ensures { PrintsOutput (R.remaining stdin.old) (W.contents stdout.old) (W.contents stdout.new) }
 {
     let mut input = [0u8; INPUT_MOST + 1];
@@ -28,10 +33,13 @@ fn judge_input<R: Read, W: Write, E: Write>(stdin: &mut R, stdout: &mut W, stder
     match read {
         Input::Whole(n) => print_output(stdout, stderr, &input[..n]),
         Input::TooLong => print_output(stdout, stderr, &input),
-        Input::Failed(n) => tell_read(stderr, n, b"judged"),
+        Input::Failed(n) => {
+            tell_read(stderr, n, b"judged");
+            ExitCode::SUCCESS
+        }
     }
 }
 
-fn main(rt: HostRuntime) {
-    judge_input(&mut rt.stdin(), &mut rt.stdout(), &mut rt.stderr());
+fn main(rt: HostRuntime) -> ExitCode {
+    judge_input(&mut rt.stdin(), &mut rt.stdout(), &mut rt.stderr())
 }

@@ -3,12 +3,12 @@
 
 ghost use Rattle.std.specs.Prelude.{◌≡◌, ◌+◌, ◌^◌, ◌≤◌, min};
 ghost use Rattle.rules.specs.Generator.{state_after_sets, generated};
-ghost use Rattle.stdio.specs.Input.{TookBeginning};
-ghost use Rattle.tilegen.specs.Pieces.{PrintsPiece};
+ghost use Rattle.stdio.specs.Input.{Wrote, TookBeginning};
 
 use std::env::Env;
 use std::io::Write;
-use stdio::{has_argument, tell, tell_count, write_output};
+use std::process::ExitCode;
+use stdio::{Written, has_argument, status_of, tell, tell_count, write_output};
 use texts::TEXT_MOST;
 use word::Decimal;
 
@@ -60,61 +60,62 @@ fn tell_write<E: Write>(stderr: &mut E, sets: u32, written: usize, all: usize) {
     tell(stderr, b" bytes after them\n");
 }
 
-// So many sets are printed, numbered from number on, and the state is moved on; the answer is whether all of their bytes were written.
+// So many sets are printed, numbered from number on, and the state is moved on; the answer is what was written of their bytes.
 fn print_piece<W: Write, E: Write>(
     stdout: &mut W,
     stderr: &mut E,
     state: &mut u32,
     number: u32,
     many: u32,
-) -> bool
+) -> Written
     requires { (number + many ≤ 2 ^ 32) × (many ≤ 100) }
     ensures moved { state.new ≡ state_after_sets many state.old }
-    ensures printed { PrintsPiece result (W.contents stdout.old) (W.contents stdout.new) (generated many number state.old) }
+    ensures printed { Wrote (W.contents stdout.old) (W.contents stdout.new) result (generated many number state.old) }
 {
     let mut out = [0u8; PIECE_BYTES];
     let all = texts::put_sets(state, number, many, &mut out);
     let written = write_output(stdout, &out[..all]);
-    if written < all {
-        tell_write(stderr, number, written, all);
-        return false;
+    match written {
+        Written::Whole => {}
+        Written::Cut(n) | Written::Unread(n) => tell_write(stderr, number, n, all),
     }
-    true
+    written
 }
 
-// The sets are printed, a piece at a time.
-fn print_sets<W: Write, E: Write>(stdout: &mut W, stderr: &mut E, seed: u32, count: u32)
+// The sets are printed, a piece at a time. The answer is the exit status.
+fn print_sets<W: Write, E: Write>(stdout: &mut W, stderr: &mut E, seed: u32, count: u32) -> ExitCode
     ensures { TookBeginning (W.contents stdout.old) (W.contents stdout.new) (generated count 0 seed) }
 {
     let mut state = seed;
     let mut number: u32 = 0;
     while number < count {
         let many = piece_of(count - number);
-        let whole = print_piece(stdout, stderr, &mut state, number, many);
-        if !whole {
-            return;
+        let written = print_piece(stdout, stderr, &mut state, number, many);
+        match written {
+            Written::Whole => number += many,
+            Written::Cut(_) | Written::Unread(_) => return status_of(written),
         }
-        number += many;
     }
+    ExitCode::SUCCESS
 }
 
-fn main(rt: HostRuntime) {
+fn main(rt: HostRuntime) -> ExitCode {
     let mut stderr = rt.stderr();
     if !has_argument(&rt, 2) || has_argument(&rt, 3) {
         tell_use(&mut stderr);
-        return;
+        return ExitCode::SUCCESS;
     }
     let mut first = [0u8; 4096];
     let seed = argument(&rt, 1, &mut first, SEED_MOST);
     let Decimal::Number(s) = seed else {
         tell_use(&mut stderr);
-        return;
+        return ExitCode::SUCCESS;
     };
     let mut second = [0u8; 5];
     let count = argument(&rt, 2, &mut second, COUNT_MOST);
     let Decimal::Number(n) = count else {
         tell_use(&mut stderr);
-        return;
+        return ExitCode::SUCCESS;
     };
-    print_sets(&mut rt.stdout(), &mut stderr, s, n);
+    print_sets(&mut rt.stdout(), &mut stderr, s, n)
 }

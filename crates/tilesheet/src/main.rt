@@ -5,6 +5,7 @@ use exchange::{MADE_MOST, Made};
 use rules::INPUT_MOST;
 use std::env::Env;
 use std::io::{Read, Write};
+use std::process::ExitCode;
 use stdio::{Input, has_argument, print_bytes, read_input, tell, tell_read};
 use wording::Source;
 
@@ -26,47 +27,52 @@ fn is_back<A: Env>(rt: &A) -> bool {
 }
 
 // What is made of an input is printed; or what is wrong is told on standard error.
-fn print_made<W: Write, E: Write>(stdout: &mut W, stderr: &mut E, source: Source, input: &[u8]) {
+fn print_made<W: Write, E: Write>(
+    stdout: &mut W,
+    stderr: &mut E,
+    source: Source,
+    input: &[u8],
+) -> ExitCode {
     let mut out = [0u8; MADE_MOST];
     let made = exchange::exchange(source, input, &mut out);
     match made {
         Made::Bytes(all) => print_bytes(stdout, stderr, &out[..all]),
-        Made::Told(all) => tell(stderr, &out[..all]),
+        Made::Told(all) => {
+            tell(stderr, &out[..all]);
+            ExitCode::SUCCESS
+        }
     }
 }
 
-// Standard input is made into the other.
+// Standard input is made into the other. The answer is the exit status.
 fn exchange_input<R: Read, W: Write, E: Write>(
     stdin: &mut R,
     stdout: &mut W,
     stderr: &mut E,
     source: Source,
-) {
+) -> ExitCode {
     let mut input = [0u8; INPUT_MOST + 1];
     let read = read_input(stdin, &mut input);
     match read {
         Input::Whole(n) => print_made(stdout, stderr, source, &input[..n]),
         Input::TooLong => print_made(stdout, stderr, source, &input),
-        Input::Failed(n) => tell_read(stderr, n, b"made"),
+        Input::Failed(n) => {
+            tell_read(stderr, n, b"made");
+            ExitCode::SUCCESS
+        }
     }
 }
 
-fn main(rt: HostRuntime) {
+fn main(rt: HostRuntime) -> ExitCode {
     let mut stdin = rt.stdin();
     let mut stdout = rt.stdout();
     let mut stderr = rt.stderr();
     if !has_argument(&rt, 1) {
-        exchange_input(&mut stdin, &mut stdout, &mut stderr, Source::Sheet);
-        return;
+        return exchange_input(&mut stdin, &mut stdout, &mut stderr, Source::Sheet);
     }
-    if has_argument(&rt, 2) {
-        tell_use(&mut stderr);
-        return;
-    }
-    let back = is_back(&rt);
-    if back {
-        exchange_input(&mut stdin, &mut stdout, &mut stderr, Source::Text);
-        return;
+    if !has_argument(&rt, 2) && is_back(&rt) {
+        return exchange_input(&mut stdin, &mut stdout, &mut stderr, Source::Text);
     }
     tell_use(&mut stderr);
+    ExitCode::SUCCESS
 }

@@ -1,2 +1,0 @@
--- What the program promises.
-pub mod Pieces

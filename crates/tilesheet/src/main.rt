@@ -1,6 +1,9 @@
 // The program: standard input is a sheet, and the text of its set is printed; or with --back it is a text, and the sheet of its first set is.
 #![tactic(auto)]
 
+ghost use Rattle.exchange.specs.Exchange.{exchanged};
+ghost use Rattle.tilesheet.specs.Program.{PrintsMade, PrintsExchange};
+
 use exchange::{MADE_MOST, Made};
 use rules::INPUT_MOST;
 use std::env::Env;
@@ -26,13 +29,15 @@ fn is_back<A: Env>(rt: &A) -> bool {
     }
 }
 
-// What is made of an input is printed; or what is wrong is told on standard error.
+// What is made of an input is printed; or what is wrong is told on standard error. The answer is the exit status.
 fn print_made<W: Write, E: Write>(
     stdout: &mut W,
     stderr: &mut E,
     source: Source,
     input: &[u8],
-) -> ExitCode {
+) -> ExitCode
+    ensures { PrintsMade (exchanged source input.now) (W.contents stdout.old) (W.contents stdout.new) }
+{
     let mut out = [0u8; MADE_MOST];
     let made = exchange::exchange(source, input, &mut out);
     match made {
@@ -44,13 +49,15 @@ fn print_made<W: Write, E: Write>(
     }
 }
 
-// Standard input is made into the other. The answer is the exit status.
+// THE PROGRAM, on any streams: standard input is made into the other; one that cannot be read is told on standard error.
 fn exchange_input<R: Read, W: Write, E: Write>(
     stdin: &mut R,
     stdout: &mut W,
     stderr: &mut E,
     source: Source,
-) -> ExitCode {
+) -> ExitCode
+    ensures { PrintsExchange source (R.remaining stdin.old) (W.contents stdout.old) (W.contents stdout.new) }
+{
     let mut input = [0u8; INPUT_MOST + 1];
     let read = read_input(stdin, &mut input);
     match read {

@@ -1,0 +1,2 @@
+-- What of an input is printed.
+mod Printing

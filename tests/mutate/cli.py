@@ -8,7 +8,7 @@ import threading
 
 from kinds import Names, variants
 from ledger import Ledger, allowed
-from run import Bench, Trial, try_all
+from run import Bench, Trial, heed_stops, try_all
 from selftest import selftest
 from tree import Crates, files_below, tree_hash
 
@@ -17,7 +17,8 @@ the crate and then the crates above it until one refuses, and prints the variant
 
 A WHAT is a spec file (crates/NAME/specs/X.antt) or a crate's name; none means every spec file. It can be stopped
 and goes on: target/mutants/results.tsv keeps each result, for as long as no file of the crates changes.
-tests/mutants.allowed lists the survivors that may survive, with the reason."""
+tests/mutants.allowed lists the survivors that may survive, with the reason. The copies stand in a temporary folder
+(below TMPDIR, with 1 to 2 GB for each job) and go at the end."""
 STATUS = 'Exit status: 0 none survived that is not allowed; 1 some did, or the checker gave up on some; 2 wrong use, or the tree itself is not proved.'
 
 
@@ -34,7 +35,6 @@ def words(argv):
     p.add_argument('--seed', type=int, default=1, help='the seed of the draw (default: 1)')
     p.add_argument('--again', choices=['passed', 'refused', 'ill-formed', 'unclear'], help='only variants that were passed, refused or ill-formed when last tried, whatever the crates were then; a refusal is tried anew')
     p.add_argument('--keep', action='store_true', help='count the results of an earlier state of the crates')
-    p.add_argument('--strict', action='store_true', help='use rt check alone, with no quick look by rt dev before it')
     p.add_argument('--selftest', action='store_true', help='try the maker of variants on a few lines of its own')
     return p.parse_args(argv)
 
@@ -185,21 +185,33 @@ def try_and_report(root, crates, trials, args, ledger):
             report.add(t, known, quiet=True)
         else:
             left.append(t)
-    bench = Bench(root, crates, set(wanted) | {c for t in left for c in crates.below(t.crate)}, args.strict)
-    if args.known:
-        left = []
-    if left and not bench.lock():
-        return wrong('another run is under way here')
-    if left:
-        print(f'{len(report.results)} known, {len(left)} to try; the tree itself first', flush=True)
-        fault = bench.prepare(sorted({t.crate for t in left}))
-        if fault:
-            return wrong('the tree itself is not proved:\n' + fault[-2000:])
 
     def done(trial, outcome):
         ledger.write(trial.key, outcome, trial.file, trial.variant.label())
         report.add(trial, outcome)
 
-    whole = try_all(bench, left, args.jobs, done)
+    ended = 0
+    if left and not args.known:
+        print(f'{len(report.results)} known, {len(left)} to try; the tree itself first', flush=True)
+        bench = Bench(root, crates, set(wanted) | {c for t in left for c in crates.below(t.crate)})
+        ended = try_left(bench, left, args.jobs, done)
+    if ended == 2:
+        return ended
     status = report.end(f' (of the crates up to {args.up_to})' if args.up_to else '')
-    return status if whole else 130
+    return ended or status
+
+
+def try_left(bench, left, jobs, done):
+    """0, or the status of a run that did not come to its end."""
+    heed_stops()
+    try:
+        if not bench.lock():
+            return wrong('another run is under way here')
+        fault = bench.prepare()
+        if fault:
+            return wrong('the tree itself is not proved:\n' + fault[-2000:])
+        return 0 if try_all(bench, left, jobs, done) else 130
+    except KeyboardInterrupt:
+        return 130
+    finally:
+        bench.clear()

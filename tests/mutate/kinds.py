@@ -17,17 +17,12 @@ OTHER_WORD = {
     'false': [('truth', 'true')],
 }
 # where such a word comes from, and its name there: a file may not import it yet
-HOME = {
-    'leb': ('lib.Dec', 'leb'), 'ltb': ('lib.Dec', 'ltb'),
-    '≤': ('Prim.Native.Nat', '_≤_'), '<': ('Prim.Native.Nat', '_<_'),
-    'min': ('Prim.Native.Nat', 'min'), 'max': ('Prim.Native.Nat', 'max'),
-    '&&': ('mathlib.Core.Bool', '_&&_'), '||': ('mathlib.Core.Bool', '_||_'),
-    'true': ('mathlib.Core.Bool', 'true'), 'false': ('mathlib.Core.Bool', 'false'),
-}
+PRELUDE = 'Rattle.std.specs.Prelude'
+HOME = {w: w for w in ('leb', 'ltb', 'min', 'max', 'true', 'false')} | {w: f'◌{w}◌' for w in ('≤', '<', '&&', '||')}
 # the argument types of what the libraries give; where both orders mean the same, the types are told apart
 LIBRARY = {
     'leb': ['ℕ', 'ℕ'], 'ltb': ['ℕ', 'ℕ'], 'eqb': ['a', 'b'], 'min': ['a', 'b'], 'max': ['a', 'b'],
-    'getD': ['List', 'ℕ', 'ℕ'], 'drop': ['ℕ', 'List'], 'take': ['ℕ', 'List'], 'List·Memᴰ': ['a', 'List'],
+    'get_or': ['List', 'ℕ', 'ℕ'], 'drop': ['ℕ', 'List'], 'take': ['ℕ', 'List'], 'Memᴰ': ['a', 'List'],
 }
 # operators whose two sides mean the same in either order have no swap
 ONE_WAY = ('-', '/', '%', '<', '≤', '++')
@@ -64,7 +59,7 @@ class Variant:
     def applied(self, source):
         """The whole file as it is tried: with the replacement, and with the new word in scope."""
         text = self.replaced(source)
-        return importing(text, *HOME[self.new]) if self.new in HOME else text
+        return importing(text, HOME[self.new]) if self.new in HOME else text
 
     def label(self):
         """The same as long as the definition stands as it is, whatever its place in the file."""
@@ -72,13 +67,13 @@ class Variant:
         return f'{self.name}, {self.kind}: {old} → {new}' + (f' ({self.nth})' if self.nth > 1 else '')
 
 
-def importing(text, module, name):
-    """A source that imports a name of a module."""
-    line = re.search(r'^use ' + re.escape(module) + r'\.\{(.*)\}$', text, re.M)
+def importing(text, name):
+    """A source that imports a name of the Prelude."""
+    line = re.search(r'^use ' + re.escape(PRELUDE) + r'\.\{(.*)\}$', text, re.M)
     if not line:
         first = re.search(r'^use ', text, re.M)
         at = first.start() if first else 0
-        return text[:at] + f'use {module}.{{{name}}}\n' + text[at:]
+        return text[:at] + f'use {PRELUDE}.{{{name}}}\n' + text[at:]
     if name in line.group(1).split(', '):
         return text
     return text[:line.end(1)] + ', ' + name + text[line.end(1):]
@@ -213,7 +208,7 @@ class Maker:
             self.add(head.text + ' lost', head.start, rest[0].start, '')
         if head.text == 'elim':
             return None  # its words are a syntax, and its arms are seen as clauses are
-        args = [n for n in rest if not n.text.startswith('.') and n.text != '{']
+        args = [n for n in rest if n.text != '{']
         types = self.names.types.get(head.text)
         for i in range(len(args) - 1):
             if types is None or (i + 1 < len(types) and types[i] == types[i + 1]):

@@ -3,10 +3,11 @@ import fcntl
 import os
 import queue
 import signal
+import tempfile
 import threading
 
 from ledger import Outcome, key_of
-from tree import Copy, Runs
+from tree import Copy, Runs, remove
 
 SECONDS = 600  # a check that takes longer has no verdict
 
@@ -29,33 +30,34 @@ class Trial:
 
 
 class Bench:
-    """A base copy that is proved, and a copy for each worker."""
+    """A base copy that is proved, and a copy for each worker. They stand outside the tree, where rt wants no second crates."""
 
-    def __init__(self, root, crates, wanted, strict):
-        self.root, self.crates, self.wanted, self.strict = root, crates, wanted, strict
+    def __init__(self, root, crates, wanted):
+        self.root, self.crates, self.wanted = root, crates, wanted
         self.runs = Runs()
-        self.folder = os.path.join(root, 'target', 'mutants')
+        self.folder = tempfile.mkdtemp(prefix='mutants-')
         self.base = Copy(root, os.path.join(self.folder, 'base'), self.runs)
+
+    def clear(self):
+        remove(self.folder)
 
     def lock(self):
         """False if another run has the copies; held until the process ends."""
-        self.held = open(os.path.join(self.folder, 'lock'), 'w', encoding='utf-8')
+        self.held = open(os.path.join(self.root, 'target', 'mutants', 'lock'), 'w', encoding='utf-8')
         try:
             fcntl.flock(self.held, fcntl.LOCK_EX | fcntl.LOCK_NB)
         except OSError:
             return False
         return True
 
-    def prepare(self, mutated):
+    def prepare(self):
         """Proves the tree as it stands; what goes wrong in it is returned as text."""
         self.base.take(self.root)
-        needed = [c for c in self.crates.deps if c in self.wanted]
-        status, said = self.base.runs.run(['rt', 'check'] + needed, self.base.folder, None)
-        if status != 0:
-            return said
-        for c in mutated:
-            self.base.look(c, None)
-        self.crates.weigh(self.base.path('target'))
+        for c in [c for c in self.crates.deps if c in self.wanted]:
+            status, said = self.base.check(c, None)
+            if status != 0:
+                return said
+        self.crates.weigh(self.base)
         return ''
 
     def worker(self, number):
@@ -73,18 +75,13 @@ class Bench:
         finally:
             with open(copy.path(trial.file), 'w', encoding='utf-8') as f:
                 f.write(trial.source)
-            copy.restore(self.base, touched, trial.crate)
+            copy.restore(self.base, touched)
 
     def climb(self, copy, trial, touched):
-        # The quick check trusts what it kept, so only its refusals count; a pass is left to the full check.
-        if not self.strict:
-            status, said = copy.look(trial.crate, SECONDS)
-            if status == 1:
-                return self.refusal(copy, trial.crate, said)
         for c in self.crates.order(trial.crate, trial.variant.name, self.wanted):
             touched.append(c)
             status, said = copy.check(c, SECONDS)
-            if status not in (0, 1) or 'NOT PROVED (exit 3' in said:
+            if status not in (0, 1):
                 return Outcome('unclear', [c], 'out of time' if status is None else 'the checker could not tell')
             if status == 1:
                 return self.refusal(copy, c, said)
@@ -92,12 +89,17 @@ class Bench:
 
     def refusal(self, copy, crate, said):
         """An error in a definition's file shows only that the variant is no definition; definitions have no proofs."""
-        errors = copy.errors(said)
+        errors = copy.errors(crate, said)
         in_specs = [e for e in errors if '/specs/' in e]
         if in_specs:
             return Outcome('ill-formed', [crate], in_specs[0])
-        place = 'what its program wrote' if 'its run FAILED' in said else 'no place named'
-        return Outcome('refused', [crate], errors[0] if errors else place)
+        return Outcome('refused', [crate], errors[0] if errors else 'no place named')
+
+
+def heed_stops():
+    """A stop is an exception from now on, so that the copies go; a shell starts what runs behind with it ignored."""
+    signal.signal(signal.SIGTERM, signal.default_int_handler)
+    signal.signal(signal.SIGINT, signal.default_int_handler)
 
 
 def try_all(bench, trials, jobs, done):
@@ -105,8 +107,6 @@ def try_all(bench, trials, jobs, done):
     todo = queue.SimpleQueue()
     for t in trials:
         todo.put(t)
-    signal.signal(signal.SIGTERM, signal.default_int_handler)
-    signal.signal(signal.SIGINT, signal.default_int_handler)  # a shell starts what runs behind with it ignored
     threads = [threading.Thread(target=work, args=(bench, i, todo, done)) for i in range(min(jobs, len(trials)))]
     for t in threads:
         t.start()
@@ -116,6 +116,8 @@ def try_all(bench, trials, jobs, done):
                 t.join(1)
     except KeyboardInterrupt:
         bench.runs.stop()
+        for t in threads:
+            t.join()
         return False
     return True
 

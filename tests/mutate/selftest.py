@@ -2,7 +2,7 @@
 from kinds import Names, variants
 
 LINES = '''-- a comment with leb 1 and "text"
-use lib.Dec.{leb, ltb}
+use Rattle.std.specs.Prelude.{leb, ltb}
 
 pub record Pair : Type 0 where
   pub left : ℕ
@@ -17,7 +17,10 @@ either true = bytes "yes"
 either false = 1 ∷ 2 ∷ []
 
 abbrev pub turned : Pair → Pair
-turned p = if small (p .left) 0 then record { left = p .right; right = p .left } else p
+turned p = if small p.left 0 then record { left = p.right; right = p.left } else p
+
+unfoldable pub sum_of : Pair → ℕ
+sum_of p = (turned p).left + p.right
 
 pub record Says (a b : ℕ) : Type 0 where
   pub low : (x y : ℕ) → 1 ≤ x → small a x ≡ true
@@ -40,10 +43,12 @@ MADE = [
     ('either false = 1 ∷ 2 ∷ []', 'either false = 2 ∷ []'),
     ('either false = 1 ∷ 2 ∷ []', 'either false = 1 ∷ []'),
     ('either false = 1 ∷ 2 ∷ []', 'either false = 2 ∷ 1 ∷ []'),
-    ('if small (p .left) 0 then', 'if small (p .right) 0 then'),
-    ('if small (p .left) 0 then', 'if small 0 (p .left) then'),
-    ('{ left = p .right; right = p .left }', '{ left = p .left; right = p .right }'),
-    ('then record { left = p .right; right = p .left } else p', 'then p else record { left = p .right; right = p .left }'),
+    ('if small p.left 0 then', 'if small p.right 0 then'),
+    ('if small p.left 0 then', 'if small 0 p.left then'),
+    ('{ left = p.right; right = p.left }', '{ left = p.left; right = p.right }'),
+    ('then record { left = p.right; right = p.left } else p', 'then p else record { left = p.right; right = p.left }'),
+    ('(turned p).left + p.right', '(turned p).right + p.right'),
+    ('(turned p).left + p.right', '(turned p).left'),
     ('(x y : ℕ) → 1 ≤ x → small a x ≡ true', '(x y : ℕ) → small a x ≡ true'),
     ('(x y : ℕ) → 1 ≤ x → small a x ≡ true', '(x y : ℕ) → 1 < x → small a x ≡ true'),
     ('(x y : ℕ) → 1 ≤ x → small a x ≡ true', '(x y : ℕ) → 1 ≤ x → small a x ≡ false'),
@@ -55,12 +60,12 @@ MADE = [
 ]
 # a word that the file lacks comes with its import: what a variant then has, in two places
 IMPORTED = [
-    ('use Prim.Native.Nat.{min}\n', 'min a b - 1'),
-    ('use Prim.Native.Nat.{_≤_}\n', 'max a b - 1 ≤ b'),
-    ('use lib.Dec.{leb, ltb}\n', 'ltb a 7'),
+    ('use Rattle.std.specs.Prelude.{leb, ltb, min}\n', 'min a b - 1'),
+    ('use Rattle.std.specs.Prelude.{leb, ltb, ◌≤◌}\n', 'max a b - 1 ≤ b'),
+    ('use Rattle.std.specs.Prelude.{leb, ltb}\n', 'ltb a 7'),
 ]
 # what every variant still has, unless it drops it with a field: comments, imports, signatures, binders
-KEPT = ['(x y : ℕ)', '-- a comment with leb 1 and "text"', 'use lib.Dec.{leb, ltb}', '-- 3 of them', 'unfoldable pub small : ℕ → ℕ → Bool', ': Type 0 where']
+KEPT = ['(x y : ℕ)', '-- a comment with leb 1 and "text"', 'use Rattle.std.specs.Prelude.{leb, ltb', '-- 3 of them', 'unfoldable pub small : ℕ → ℕ → Bool', ': Type 0 where']
 
 
 def selftest():

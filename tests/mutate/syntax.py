@@ -34,8 +34,16 @@ class Definition:
 
 def words(source):
     """The words of a source without its comments, each a Node."""
-    found = (Node('word', m.start(), m.end(), text=m.group()) for m in WORD.finditer(source))
-    return [w for w in found if not w.text.startswith('--')]
+    found = (m for m in WORD.finditer(source) if not m.group().startswith('--'))
+    return [w for m in found for w in pieces(m.group(), m.start())]
+
+
+def pieces(text, start):
+    """The words x, .f and .g of x.f.g; what a type or a module gives, as Pair.left, is one word, as is the x. of a λ."""
+    if text.startswith('"') or text.endswith('.') or not (text[0] == '.' or text[0].islower()):
+        return [Node('word', start, start + len(text), text=text)]
+    found = re.finditer(r'^[^.]+|\.[^.]+', text)
+    return [Node('word', start + m.start(), start + m.end(), text=m.group()) for m in found]
 
 
 def nested(flat):
@@ -89,7 +97,7 @@ def shape(row):
         split, ops = parts(row, seps)
         if ops:
             return compound('operator', row, [shape(p) for p in split], ops)
-    return compound('call', row, [shape_atom(n) for n in row])
+    return compound('call', row, shape_atoms(row))
 
 
 def shape_lambda(row):
@@ -98,6 +106,17 @@ def shape_lambda(row):
         if n.text.endswith('.'):
             return compound('lambda', row, [shape(row[i + 1:])])
     return compound('call', row, row)
+
+
+def shape_atoms(row):
+    """The parts of a call: words and groups, each with the fields that are asked of it."""
+    found = []
+    for n in row:
+        if found and n.text.startswith('.'):
+            found[-1] = Node('fields', found[-1].start, n.end, [found[-1], n])
+        else:
+            found.append(shape_atom(n))
+    return found
 
 
 def shape_atom(node):

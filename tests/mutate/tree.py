@@ -6,8 +6,9 @@ import shutil
 import signal
 import subprocess
 import threading
+import time
 
-ERROR = re.compile(r'^(?:note: )?(/\S+?):(\d+):(\d+): error', re.M)
+ERROR = re.compile(r'^(?:note: )?(\S+?):\d+:\d+: (?:error|it is not proved)', re.M)
 
 
 class Crates:
@@ -19,7 +20,7 @@ class Crates:
             for line in f:
                 name, colon, deps = line.split('#')[0].partition(':')
                 if colon:
-                    self.deps[name.strip()] = deps.split()
+                    self.deps[name.split()[0]] = deps.split()  # `staticlib` may follow the name
         for name, deps in self.deps.items():
             self.deps[name] = [d for d in deps if d in self.deps]
 
@@ -33,11 +34,10 @@ class Crates:
     def above(self, name):
         return [c for c in self.deps if c != name and name in self.below(c)]
 
-    def weigh(self, target):
-        """A check's cost goes by what it writes: about a second for each MB. A program is linked and run too."""
+    def weigh(self, copy):
+        """A check's cost goes by what it keeps: some 5 seconds, and about a second for each 2 MB."""
         for c in self.deps:
-            size = folder_size(os.path.join(target, 'rlib', c + '.rlib'))
-            self.cost[c] = size / 1e6 if size else 30
+            self.cost[c] = 5 + folder_size(copy.path('crates', c, 'out', 'incremental')) / 2e6
 
     def order(self, crate, name, wanted):
         """The crates to try for a changed definition. First those whose files cite its name, the cheapest first."""
@@ -51,11 +51,11 @@ class Crates:
         return done
 
     def cites(self, crate, name):
-        word = re.compile(r'(?<![\w·-])' + re.escape(name.strip('_')) + r'(?![\w·-])')
+        word = re.compile(r'(?<!\w)' + re.escape(name.strip('◌')) + r'(?!\w)')
         return any(word.search(text) for text in self.texts(crate))
 
     def texts(self, crate):
-        for path in files_below(os.path.join(self.root, 'crates', crate)):
+        for path in sources_below(os.path.join(self.root, 'crates', crate)):
             if path.endswith(('.rt', '.antt')):
                 with open(path, encoding='utf-8') as f:
                     yield f.read()
@@ -65,6 +65,11 @@ def files_below(folder):
     return sorted(os.path.join(d, f) for d, _, fs in os.walk(folder) for f in fs)
 
 
+def sources_below(folder):
+    """The files that are the crates' own: not those that rt made of them."""
+    return [p for p in files_below(folder) if '/out/' not in p[len(folder):]]
+
+
 def folder_size(folder):
     return sum(os.path.getsize(f) for f in files_below(folder))
 
@@ -72,17 +77,26 @@ def folder_size(folder):
 def tree_hash(root):
     """Of everything that a proof hangs on."""
     h = hashlib.sha256()
-    for path in [os.path.join(root, 'crates.txt')] + files_below(os.path.join(root, 'crates')):
+    for path in [os.path.join(root, 'crates.txt')] + sources_below(os.path.join(root, 'crates')):
         if '/must-fail/' not in path:
             with open(path, 'rb') as f:
                 h.update(path[len(root):].encode() + b'\0' + f.read() + b'\0')
     return h.hexdigest()[:16]
 
 
+def remove(folder):
+    """A folder goes even where a check that was stopped still writes: what rt started ends a moment after rt."""
+    for _ in range(50):
+        shutil.rmtree(folder, ignore_errors=True)
+        if not os.path.exists(folder):
+            return
+        time.sleep(0.1)
+
+
 def copy_over(source, goal):
     """A file or a folder as it stands at source, whatever stood at goal."""
     if os.path.isdir(goal):
-        shutil.rmtree(goal)
+        remove(goal)
     elif os.path.exists(goal):
         os.remove(goal)
     if os.path.isdir(source):
@@ -100,11 +114,10 @@ class Runs:
 
     def run(self, words, folder, seconds):
         """A command in a folder: its status (None: out of time) and what it printed."""
-        env = dict(os.environ, RT_JOBS='1', RT_CUT='400')
         with self.lock:
             if self.stopped:
                 raise KeyboardInterrupt
-            p = subprocess.Popen(words, cwd=folder, env=env, stdin=subprocess.DEVNULL, stdout=subprocess.PIPE,
+            p = subprocess.Popen(words, cwd=folder, stdin=subprocess.DEVNULL, stdout=subprocess.PIPE,
                                  stderr=subprocess.STDOUT, start_new_session=True)
             self.live.add(p)
         try:
@@ -113,6 +126,9 @@ class Runs:
         except subprocess.TimeoutExpired:
             end(p)
             return None, p.communicate()[0].decode('utf-8', 'replace')
+        except KeyboardInterrupt:
+            end(p)
+            raise
         finally:
             self.live.discard(p)
 
@@ -140,25 +156,18 @@ class Copy:
         return os.path.join(self.folder, *parts)
 
     def take(self, source):
-        """Everything from another place: the tree, or the base copy."""
-        os.makedirs(self.path('target'), exist_ok=True)
-        for part in ('crates', 'crates.txt', 'target/rlib', 'target/stamp', 'target/inc'):
+        """Everything from another place, with what rt keeps in each crate's out/: the tree, or the base copy."""
+        for part in ('crates', 'crates.txt'):
             copy_over(os.path.join(source, part), self.path(part))
 
-    def restore(self, base, crates, inc):
+    def restore(self, base, crates):
         """What was built of some crates, as the base has it."""
         for c in crates:
-            for part in ('target/rlib/' + c + '.rlib', 'target/stamp/' + c):
-                copy_over(base.path(part), self.path(part))
-        copy_over(base.path('target/inc', inc), self.path('target/inc', inc))
+            copy_over(base.path('crates', c, 'out'), self.path('crates', c, 'out'))
 
     def check(self, crate, seconds):
-        return self.runs.run(['rt', 'check', crate], self.folder, seconds)
+        return self.runs.run(['rt', 'check', '--jobs', '1'], self.path('crates', crate), seconds)
 
-    def look(self, crate, seconds):
-        """The quick check, over what an earlier one left."""
-        return self.runs.run(['rt', 'dev', crate], self.folder, seconds)
-
-    def errors(self, said):
-        """The files below the copy in which errors stand, in order."""
-        return [os.path.relpath(m.group(1), os.path.realpath(self.folder)) for m in ERROR.finditer(said)]
+    def errors(self, crate, said):
+        """The files of the copy in which errors stand, in order; a check names them from its crate's folder."""
+        return [os.path.relpath(self.path('crates', crate, m.group(1)), self.folder) for m in ERROR.finditer(said)]

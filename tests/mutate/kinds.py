@@ -195,7 +195,7 @@ class Maker:
             same = [f for f, t in fields if own and t == own[0]]
             if len(same) > 1:
                 i = same.index(w.text[1:])
-                for other in {same[(i + 1) % len(same)], same[i - 1]}:
+                for other in dict.fromkeys((same[(i + 1) % len(same)], same[i - 1])):
                     self.add('field swapped', w.start, w.end, '.' + other)
 
     def call(self, node):

@@ -27,3 +27,9 @@ Wrote old new (Written.Unread n) bytes = (n < length bytes) × Appends old new (
 -- of a writer whose bytes are known: it took a beginning of these, in their order
 abbrev pub TookBeginning : Option (List ℕ) → Option (List ℕ) → List ℕ → Type 0
 TookBeginning old new bytes = (n : ℕ) × Appends old new (take n bytes)
+
+-- the exit status of a program that wrote so much: 0, or 141 where its reader went away
+abbrev pub status_after : Written → ℕ
+status_after Written.Whole = 0
+status_after (Written.Cut n) = 0
+status_after (Written.Unread n) = 141

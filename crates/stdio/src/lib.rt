@@ -2,9 +2,10 @@
 // streams are lent by the caller: what is promised holds of any reader and writer. And how many arguments there are.
 #![tactic(auto)]
 
-ghost use Rattle.std.specs.Prelude.{◌<◌, length};
+ghost use Rattle.std.specs.Prelude.{◌≡◌, ◌<◌, length};
+ghost use Rattle.std.specs.Process.{exit_status};
 ghost use Rattle.rules.specs.Numbers.{input_most};
-ghost use Rattle.stdio.specs.Input.{Within, Took, Wrote, TookBeginning};
+ghost use Rattle.stdio.specs.Input.{Within, Took, Wrote, TookBeginning, status_after};
 
 use std::env::{Env, FillError};
 use std::io::{Error, ErrorKind, Read, Write};
@@ -107,7 +108,9 @@ pub fn write_output<W: Write>(output: &mut W, bytes: &[u8]) -> Written
 }
 
 // The exit status of a program that wrote so much: where its reader went away, the one that a shell gives a program which is ended by that.
-pub fn status_of(written: Written) -> ExitCode {
+pub fn status_of(written: Written) -> ExitCode
+    ensures { exit_status result ≡ status_after written }
+{
     match written {
         Written::Whole | Written::Cut(_) => ExitCode::SUCCESS,
         Written::Unread(_) => ExitCode::from(UNREAD_STATUS),

@@ -17,7 +17,7 @@ fn wrapping_mul(a: u32, b: u32) -> u32
 }
 
 // The state after a draw.
-#[tactic(auto, unfolding(rules::specs::Generator::next_state))]
+#[tactic(auto, using(rules::proofs::Drawn::next_is))]
 pub fn next(state: u32) -> u32
     ensures { result ≡ next_state state }
 {
@@ -25,7 +25,7 @@ pub fn next(state: u32) -> u32
 }
 
 // A draw: the number drawn; the state is moved on.
-#[tactic(auto, unfolding(rules::specs::Generator::drawn))]
+#[tactic(auto, using(rules::proofs::Drawn::drew))]
 pub fn draw_from(state: &mut u32) -> u32
     ensures { Draws state.old result state.new }
 {

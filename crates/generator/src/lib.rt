@@ -13,7 +13,7 @@ pub struct Generator {
 }
 
 // THE DRAW. The number drawn; the state is moved on.
-#[tactic(auto, unfolding(rules::specs::Generator::drawn))]
+#[tactic(auto, using(rules::proofs::Drawn::drew))]
 pub fn draw(g: &mut Generator) -> u32
     ensures { Draws g.old.state result g.new.state }
 {

@@ -7,16 +7,16 @@ ghost use Rattle.rules.specs.Text.{bytes, line};
 ghost use Rattle.rules.specs.Report.{blocker_word, verdict_lines, refusal_lines, answer_lines};
 ghost use Rattle.print.specs.Place.{Puts};
 
-use rules::{Blocker, Carried, Refusal, Verdict, VerdictAnswer};
+use rules::{Carried, Refusal, Verdict};
 
 // The blocker's line is put at a place.
-fn put_blocker(out: &mut [u8], at: usize, blocker: Blocker) -> usize
+fn put_blocker(out: &mut [u8], at: usize, blocker: Option<u32>) -> usize
     requires { at + length (line (bytes "blocker=") (blocker_word blocker)) ≤ length out.old }
     ensures { Puts out.old at (line (bytes "blocker=") (blocker_word blocker)) result out.new }
 {
     match blocker {
-        Blocker::Task(k) => print::put_line(out, at, b"blocker=", k),
-        Blocker::Nobody => print::put_word_line(out, at, b"blocker=", b"none"),
+        Some(k) => print::put_line(out, at, b"blocker=", k),
+        None => print::put_word_line(out, at, b"blocker=", b"none"),
     }
 }
 
@@ -30,7 +30,7 @@ fn put_meets(out: &mut [u8], at: usize, span: u32) -> usize
 }
 
 // The lines of a "misses" are put at a place.
-fn put_misses(out: &mut [u8], at: usize, least: u32, blocker: Blocker, over: u32) -> usize
+fn put_misses(out: &mut [u8], at: usize, least: u32, blocker: Option<u32>, over: u32) -> usize
     requires { at + length (verdict_lines (Verdict.Misses least blocker over)) ≤ length out.old }
     ensures { Puts out.old at (verdict_lines (Verdict.Misses least blocker over)) result out.new }
 {
@@ -61,7 +61,7 @@ fn put_carried(out: &mut [u8], at: usize, carried: Carried) -> usize
         Carried::Word(i) => print::put_line(out, at, b"word=", i),
         Carried::Line(l) => print::put_line(out, at, b"line=", l),
         Carried::Record(l) => print::put_line(out, at, b"record=", l),
-        Carried::Nothing => at,
+        None => at,
     }
 }
 
@@ -77,12 +77,12 @@ fn put_refusal(out: &mut [u8], at: usize, refusal: Refusal) -> usize
 }
 
 // An answer's lines are put at a place.
-pub fn put_answer(out: &mut [u8], at: usize, answer: VerdictAnswer) -> usize
+pub fn put_answer(out: &mut [u8], at: usize, answer: Result<Verdict, Refusal>) -> usize
     requires { at + length (answer_lines answer) ≤ length out.old }
     ensures { Puts out.old at (answer_lines answer) result out.new }
 {
     match answer {
-        VerdictAnswer::Judged(verdict) => put_verdict(out, at, verdict),
-        VerdictAnswer::Refused(refusal) => put_refusal(out, at, refusal),
+        Ok(verdict) => put_verdict(out, at, verdict),
+        Err(refusal) => put_refusal(out, at, refusal),
     }
 }

@@ -8,7 +8,7 @@ ghost use Rattle.rules.specs.Demand.{due, wait, blocker, ceiling, work};
 ghost use Rattle.demand.specs.Parts.{Bounded, WorkedOut, fails_by};
 
 use arith::{greater, wide};
-use rules::{Blocker, Task};
+use rules::{Task};
 use table::task_at;
 use trains::count_within;
 
@@ -65,7 +65,7 @@ pub fn excess_at(table: &[u32], length: u32) -> u64
 }
 
 // The blocker of a length. From the last task to the first, so that of equals the lowest stays.
-pub fn blocker_at(table: &[u32], length: u32) -> Blocker
+pub fn blocker_at(table: &[u32], length: u32) -> Option<u32>
     requires { ValidTable table.now }
     ensures { result ≡ blocker length (tasks_of table.now) }
 {
@@ -81,9 +81,9 @@ pub fn blocker_at(table: &[u32], length: u32) -> Blocker
         }
     }
     if most == 0 {
-        return Blocker::Nobody;
+        return None;
     }
-    Blocker::Task(task)
+    Some(task)
 }
 
 // C × (t / T rounded up).

@@ -12,7 +12,6 @@ use Rattle.rules.specs.Jobs.{planned}
 use Rattle.rules.specs.Answers.{timing}
 use Rattle.rules.specs.Calls.{Dispatches}
 use Rattle.rules.specs.declared.Plan.{Plan}
-use Rattle.rules.specs.declared.ScheduleAnswer.{ScheduleAnswer}
 use Rattle.rules.proofs.Tables.{task_c_most}
 use Rattle.rules.proofs.Choosing.{rows_none, rows_all}
 use Rattle.rules.proofs.LateJob.{late_no_row}
@@ -26,6 +25,9 @@ use Rattle.row.specs.declared.Lateness.{Lateness}
 use Rattle.row.specs.declared.Lateness.TheVariants.{OnTime}
 use Rattle.row.specs.Lateness.{lateness, noting, answered}
 use Rattle.row.proofs.Held.{held_more, answered_is}
+use Rattle.std.specs.Prelude.{Result}
+use Rattle.rules.specs.declared.Refusal.{Refusal}
+use Rattle.rules.specs.declared.Timing.{Timing}
 
 -- k of n rows, those of done, are written to out, which was out₀
 pub record State (w : List ℕ) (plan : Plan) (out₀ : List ℕ) (m n : ℕ) (out nx : List ℕ) (t : ℕ) (l : Lateness) (k : ℕ) : Type 0 where
@@ -109,7 +111,7 @@ module _ (w : List ℕ) (plan : Plan) (out₀ : List ℕ) (m n : ℕ) (ok : Vali
               ∙ held_more row done;
         }
 
-    pub state_end : n ≤ k → (answer : ScheduleAnswer) → answer ≡ answered n l → Dispatches (planned plan (tasks_of w)) out₀ answer out
+    pub state_end : n ≤ k → (answer : Result Timing Refusal) → answer ≡ answered n l → Dispatches (planned plan (tasks_of w)) out₀ answer out
     state_end h answer e =
         let z : n - k ≡ 0 = omega arith in
         let left : rows (n - k) t (rest_from w plan nx m 0) ≡ [] = ap (λ (x : ℕ). rows x t (rest_from w plan nx m 0)) z ∙ rows_none t _ in

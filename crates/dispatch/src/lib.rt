@@ -9,7 +9,7 @@ ghost use Rattle.rules.specs.Calls.{Dispatches};
 
 use arith::wide;
 use row::{Lateness, answer, noted, put_row};
-use rules::{Plan, Refusal, ScheduleAnswer};
+use rules::{Plan, Refusal, Timing};
 use table::{TASK_MOST, task_at};
 use trains::count_of;
 use turn::choose;
@@ -30,7 +30,7 @@ fn count_jobs(table: &[u32], plan: Plan) -> u64
 }
 
 // Writes the rows of a plan's n jobs, four words a row, and says whether all were on time. Of each task only the number of its next job is kept.
-fn run(table: &[u32], plan: Plan, n: u64, rows: &mut [u64]) -> ScheduleAnswer
+fn run(table: &[u32], plan: Plan, n: u64, rows: &mut [u64]) -> Result<Timing, Refusal>
     requires valid_table { ValidTable table.now }
     requires n_value { n ≡ length (planned plan (tasks_of table.now)) }
     requires n_bound { n < 2 ^ 39 }
@@ -59,14 +59,14 @@ fn run(table: &[u32], plan: Plan, n: u64, rows: &mut [u64]) -> ScheduleAnswer
 
 // Writes the rows of a plan's jobs to the start of a lent buffer: on time or late; or refused, where the buffer is too short, and then
 // nothing is written.
-pub fn dispatch(table: &[u32], plan: Plan, rows: &mut [u64]) -> ScheduleAnswer
+pub fn dispatch(table: &[u32], plan: Plan, rows: &mut [u64]) -> Result<Timing, Refusal>
     requires { ValidTable table.now }
     ensures { Dispatches (planned plan (tasks_of table.now)) rows.old result rows.new }
 {
     let n = count_jobs(table, plan);
     let room = rows.len() as u64;
     if room < 4 * n {
-        return ScheduleAnswer::Refused(Refusal::TooShort);
+        return Err(Refusal::TooShort);
     }
     run(table, plan, n, rows)
 }

@@ -4,6 +4,7 @@ use Rattle.rules.specs.declared.Task.{Task}
 use Rattle.rules.specs.Generator.{state_after, task_drawn, tasks_drawn, long_kernel, with_long, words_of}
 use Rattle.rules.proofs.Slices.{four_more}
 use Rattle.rules.proofs.Drawn.{state_none, state_more, rest, rest_all, rest_more, rest_none, words_of_none, words_of_more, words_of_append, length_words_of}
+use Rattle.std.specs.Prelude.{None}
 
 -- i of n tasks are written; those of done came after the first, when the state was s₀, the table table₀ and the least D d₀
 pub record Filled (s₀ n : ℕ) (asked : Bool) (table₀ : List ℕ) (d₀ s : ℕ) (table : List ℕ) (d i : ℕ) : Type 0 where
@@ -98,11 +99,11 @@ module _ (s₀ n : ℕ) (asked : Bool) (table₀ : List ℕ) (d₀ : ℕ) where
     -- and the words are those of all tasks
     filled_all : n ≤ i → table ≡ (take 4 table₀ ++ words_of (rest asked d₀ (tasks_drawn (n - 1) s₀))) ++ drop (4 * n) table₀
     filled_all h =
-        let none : rest asked d₀ (tasks_drawn (n - 1) s₀) ≡ F.done =
+        let None : rest asked d₀ (tasks_drawn (n - 1) s₀) ≡ F.done =
         F.all ∙ ap (λ (ts : List Task). F.done ++ ts) (rest_none asked d (n - i) s (omega arith)) ∙ append-nil F.done
         in
         let e : 4 * i ≡ 4 * n = omega (arith, F.most) in
-        F.written ∙ ap₂ (λ (ts : List Task) (k : ℕ). (take 4 table₀ ++ words_of ts) ++ drop k table₀) (sym none) e
+        F.written ∙ ap₂ (λ (ts : List Task) (k : ℕ). (take 4 table₀ ++ words_of ts) ++ drop k table₀) (sym None) e
 
 -- the whole: the first task τ, put at the start of old, and the loop after it
 module _ (s n : ℕ) (asked : Bool) (old : List ℕ) {τ : Task} {s₀ : ℕ} {table₀ : List ℕ} (h : 1 ≤ n) (et : τ ≡ task_drawn s) (es : s₀ ≡ state_after 4 s)

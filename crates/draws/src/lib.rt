@@ -4,7 +4,7 @@
 ghost use Rattle.std.specs.Prelude.{◌≡◌, ◌+◌, ◌*◌, ◌%◌, ◌<◌, ◌≤◌, min, ◌&&◌, ◌∷◌, ◌++◌, length, take, drop, ◌==◌, if◌then◌else◌};
 ghost use Rattle.rules.specs.Generator.{next_state, state_after, task_drawn, tasks_drawn, long_kernel, with_long, words_of, Draws, DrawsSet};
 
-use rules::{ReadAnswer, Refusal, Task};
+use rules::{Refusal, Task};
 
 // D and T of the long kernel.
 const LONG: u32 = 65535;
@@ -107,16 +107,16 @@ fn draw_tasks(state: &mut u32, n: usize, asked: bool, table: &mut [u32])
 
 // THE SET of a number goes to the start of a table; the answer is the task count, and the state is moved on. Where the table is too short,
 // nothing is.
-pub fn draw_set_from(state: &mut u32, number: u32, table: &mut [u32]) -> ReadAnswer
+pub fn draw_set_from(state: &mut u32, number: u32, table: &mut [u32]) -> Result<u32, Refusal>
     ensures { DrawsSet state.old number table.old result state.new table.new }
 {
     let mut after = *state;
     let n = 1 + draw_from(&mut after) % 8;
     let count = n as usize;
     if table.len() < 4 * count {
-        return ReadAnswer::Refused(Refusal::TooShort);
+        return Err(Refusal::TooShort);
     }
     draw_tasks(&mut after, count, number % 4 == 0, table);
     *state = after;
-    ReadAnswer::Set(n)
+    Ok(n)
 }

@@ -3,7 +3,6 @@ use mathlib.Core.Path.{◌≡◌, refl, sym, ap, ◌∙◌}
 use Prim.Native.Nat.{ℕ, ◌+◌, ◌≤◌}
 use native.Mathlib.Omega.{arith}
 use mathlib.Core.List.{List, [], ◌∷◌}
-use mathlib.Core.Option.{Option, none, some}
 use lib.ListN.{length, drop, length-append}
 use Rattle.rules.specs.Refusals.{first_of}
 use Rattle.rules.specs.Table.{table_refusal}
@@ -15,6 +14,7 @@ use Rattle.exchange.specs.Exchange.{reading_refusal, words_in, Outcome, made, to
 use Rattle.exchange.specs.declared.Made.{Made}
 use Rattle.wording.specs.Wording.{wrong_in}
 use Rattle.exchange.proofs.Tellable.{words_fours, reading_tellable, table_tellable}
+use Rattle.std.specs.Prelude.{Option, Some, None}
 
 pub gives_one : GivesOne
 gives_one outcome out a b e f p q = (p.says ∙ sym q.says, p.leaves ∙ sym q.leaves)
@@ -42,10 +42,10 @@ gives_within {outcome} {out} g e =
 pub all_worded : AllWorded
 all_worded source input r = by_reading (reading_refusal source input) refl
   where
-    by_reading : (o : Option Refusal) → reading_refusal source input ≡ o → first_of (o ∷ table_refusal (words_in source input) ∷ []) ≡ some r
+    by_reading : (o : Option Refusal) → reading_refusal source input ≡ o → first_of (o ∷ table_refusal (words_in source input) ∷ []) ≡ Some r
         → wrong_in source r ≡ [] → ⊥
-    by_reading (some s) e f = (reading_tellable source input r (e ∙ f)).worded
-    by_reading none e f =
+    by_reading (Some s) e f = (reading_tellable source input r (e ∙ f)).worded
+    by_reading None e f =
         (table_tellable source (words_in source input) r (words_fours source input e) (sym (alone (table_refusal (words_in source input))) ∙ f)).worded
 
 -- bytes put at the start are told

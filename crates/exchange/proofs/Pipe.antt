@@ -5,7 +5,6 @@ use mathlib.Core.Path.{◌≡◌, refl, sym, ap, ◌∙◌}
 use native.Mathlib.Omega.{arith}
 use mathlib.Core.List.{List, [], ◌∷◌, append-nil}
 use mathlib.Core.Bool.{Bool, true, false}
-use mathlib.Core.Option.{Option, none, some}
 use Prim.Native.Nat.{ℕ, ◌<◌}
 use lib.Dec.{ltb}
 use lib.ListN.{length}
@@ -25,20 +24,21 @@ use Rattle.exchange.specs.Exchange.{reading_refusal, words_in, written, made, to
 use Rattle.wording.specs.declared.Source.{Source}
 use Rattle.wording.specs.Wording.{sentence, too_long}
 use Rattle.exchange.proofs.Becomes.{is_fine}
+use Rattle.std.specs.Prelude.{Option, Some, None}
 
 -- what was made is written of the input's words, a table that is not refused
 was_made : (source : Source) (input vs : List ℕ) → exchanged source input ≡ made vs
-    → (table_refusal (words_in source input) ≡ none) × (vs ≡ written source (words_in source input))
+    → (table_refusal (words_in source input) ≡ None) × (vs ≡ written source (words_in source input))
 unfolding exchanged
 was_made source input vs = by_refusals (ltb input_most (length input)) (reading_refusal source input) (table_refusal (words_in source input)) refl
   where
     by_refusals : (long : Bool) (o p : Option Refusal) → table_refusal (words_in source input) ≡ p
         → (if long then told too_long else answering (first_of (o ∷ p ∷ [])) (λ r. told (sentence source r)) (made (written source (words_in source input)))) ≡ made vs
-        → (table_refusal (words_in source input) ≡ none) × (vs ≡ written source (words_in source input))
+        → (table_refusal (words_in source input) ≡ None) × (vs ≡ written source (words_in source input))
     by_refusals true o p e f = impossible cc
-    by_refusals false (some r) p e f = impossible cc
-    by_refusals false none (some r) e f = impossible cc
-    by_refusals false none none e f = (e, cc)
+    by_refusals false (Some r) p e f = impossible cc
+    by_refusals false None (Some r) e f = impossible cc
+    by_refusals false None None e f = (e, cc)
 
 pub piped : Piped
 piped sheet text e =
@@ -47,17 +47,17 @@ piped sheet text e =
     ap read_set (m.1 ∙ sym (append-nil (write_set words))) ∙ write_then_read words [] m.0
 
 -- a sheet with words is not refused
-some_tasks : (ws : List ℕ) → 0 < length ws → record_refusal (tasks ws) ≡ none
+some_tasks : (ws : List ℕ) → 0 < length ws → record_refusal (tasks ws) ≡ None
 some_tasks [] h = absurd (omega arith)
 some_tasks (w ∷ ws) h = refl
 
 pub there_and_back : ThereAndBack
 there_and_back text sheet words rest e f =
     let m = was_made Source.Text text sheet f in
-    let fine : table_refusal words ≡ none = ap (λ (k : Lines). table_refusal (words_read k)) (sym e) ∙ m.0 in
+    let fine : table_refusal words ≡ None = ap (λ (k : Lines). table_refusal (words_read k)) (sym e) ∙ m.0 in
     let is : sheet ≡ write_sheet words = m.1 ∙ ap (λ (k : Lines). write_sheet (words_read k)) e in
     let read : read_sheet sheet ≡ tasks words = ap read_sheet is ∙ sheet_then_table words fine in
-    let unrefused : record_refusal (read_sheet sheet) ≡ none = ap record_refusal read ∙ some_tasks words (omega (arith, (valid_of words fine).words, (valid_of words fine).some_task)) in (
+    let unrefused : record_refusal (read_sheet sheet) ≡ None = ap record_refusal read ∙ some_tasks words (omega (arith, (valid_of words fine).words, (valid_of words fine).some_task)) in (
       write_set words,
       sym (is_fine Source.Sheet sheet (omega (arith, ap length is, sheet_most words fine)) unrefused (ap (λ (k : Sheet). table_refusal (sheet_words k)) read ∙ fine))
           ∙ ap (λ (k : Sheet). made (write_set (sheet_words k))) read,

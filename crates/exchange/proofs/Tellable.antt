@@ -4,7 +4,6 @@ use mathlib.Core.Path.{◌≡◌, subst}
 use Prim.Native.Nat.{ℕ}
 use native.Mathlib.Omega.{arith}
 use mathlib.Core.List.{List, [], ◌∷◌}
-use mathlib.Core.Option.{none, some}
 use lib.Dec.{eqb}
 use Rattle.rules.specs.Table.{table_refusal}
 use Rattle.rules.specs.Text.{Lines, took, stop, read_set}
@@ -18,6 +17,7 @@ use Rattle.rules.proofs.Rooms.{Fours, set_fours, sheet_words_fours}
 use Rattle.exchange.specs.Exchange.{reading_refusal, words_in}
 use Rattle.wording.specs.declared.Source.{Source}
 use Rattle.wording.specs.Wording.{wrong_in, InTable}
+use Rattle.std.specs.Prelude.{Some, None}
 
 pub record Tellable (source : Source) (r : Refusal) : Type 0 where
   pub named : InTable r
@@ -31,10 +31,10 @@ range_worded Source.Sheet i e = impossible cc
 range_worded Source.Text i e = impossible cc
 
 -- THE READERS'
-pub reading_tellable : (source : Source) (input : List ℕ) (r : Refusal) → reading_refusal source input ≡ some r → Tellable source r
+pub reading_tellable : (source : Source) (input : List ℕ) (r : Refusal) → reading_refusal source input ≡ Some r → Tellable source r
 reading_tellable Source.Sheet input r = by_sheet (read_sheet input)
   where
-    by_sheet : (k : Sheet) → record_refusal k ≡ some r → Tellable Source.Sheet r
+    by_sheet : (k : Sheet) → record_refusal k ≡ Some r → Tellable Source.Sheet r
     by_sheet no_header e = let f : NoHeader ≡ r = cc in subst (Tellable Source.Sheet) f (record { named = λ i g. impossible cc; worded = λ g. impossible cc })
     by_sheet (wrong l) e =
         let f : BadRecord l ≡ r = cc in
@@ -43,20 +43,20 @@ reading_tellable Source.Sheet input r = by_sheet (read_sheet input)
     by_sheet (tasks (w ∷ ws)) e = impossible cc
 reading_tellable Source.Text input r = by_set (read_set input)
   where
-    by_set : (k : Lines) → line_refusal k ≡ some r → Tellable Source.Text r
+    by_set : (k : Lines) → line_refusal k ≡ Some r → Tellable Source.Text r
     by_set (took ws rest) e = impossible cc
     by_set (stop l) e = let f : BadLine l ≡ r = cc in subst (Tellable Source.Text) f (record { named = λ i g. impossible cc; worded = λ g. impossible cc })
 
 -- an input that is read has four words a task
-pub words_fours : (source : Source) (input : List ℕ) → reading_refusal source input ≡ none → Fours (words_in source input)
+pub words_fours : (source : Source) (input : List ℕ) → reading_refusal source input ≡ None → Fours (words_in source input)
 words_fours Source.Sheet input e = sheet_words_fours input e
 words_fours Source.Text input e = set_fours input e
 
 -- and its table's refusal is a word's
-pub table_tellable : (source : Source) (ws : List ℕ) (r : Refusal) → Fours ws → table_refusal ws ≡ some r → Tellable source r
-table_tellable source ws r four e = by_case r ((table_says ws (some r)).0 e)
+pub table_tellable : (source : Source) (ws : List ℕ) (r : Refusal) → Fours ws → table_refusal ws ≡ Some r → Tellable source r
+table_tellable source ws r four e = by_case r ((table_says ws (Some r)).0 e)
   where
-    by_case : (r : Refusal) → TableSays ws (some r) → Tellable source r
+    by_case : (r : Refusal) → TableSays ws (Some r) → Tellable source r
     by_case r (TableSays.no_word a) = absurd (omega (arith, four.some_word))
     by_case r (TableSays.not_fours a b) = absurd (b (omega (arith, four.fours)))
     by_case r (TableSays.too_many a b c) = absurd (omega (arith, four.few))

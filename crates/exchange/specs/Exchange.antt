@@ -1,6 +1,5 @@
 -- What becomes of an input: of a sheet the text of its set, of a text the sheet of its first set; or the words for what is wrong.
 use Rattle.std.specs.Prelude.{◌≡◌, ℕ, ◌/◌, List, [], ◌∷◌, ◌++◌, ltb, length, drop, if◌then◌else◌}
-use Rattle.std.proofs.Math.Option.{Option, some}
 use Rattle.rules.specs.Numbers.{input_most}
 use Rattle.rules.specs.Refusals.{first_of, answering, lent}
 use Rattle.rules.specs.Table.{table_refusal}
@@ -8,10 +7,10 @@ use Rattle.rules.specs.Text.{took, read_set, words_read, write_set}
 use Rattle.rules.specs.Sheet.{read_sheet, sheet_words, write_sheet}
 use Rattle.rules.specs.Answers.{line_refusal, record_refusal}
 use Rattle.rules.specs.declared.Refusal.{Refusal}
-use Rattle.rules.specs.declared.ReadAnswer.{ReadAnswer}
 use Rattle.wording.specs.declared.Source.{Source}
 use Rattle.wording.specs.Wording.{wrong_in, sentence, too_long}
 use Rattle.exchange.specs.declared.Made.{Made}
+use Rattle.std.specs.Prelude.{Option, Some, Result, Ok, Err}
 
 -- WHAT BECOMES OF AN INPUT
 -- the refusal of its reading: 13, 14, 15 for a sheet, 7 for a text
@@ -50,8 +49,8 @@ abbrev pub made_most : ℕ
 made_most = 2057
 
 -- the reading of an input into a table with room for 64 tasks
-pub record ReadsTable (source : Source) (input table : List ℕ) (answer : ReadAnswer) (exit : List ℕ) : Type 0 where
-  pub says : answer ≡ answering (reading_refusal source input) ReadAnswer.Refused (ReadAnswer.Set (length (words_in source input) / 4))
+pub record ReadsTable (source : Source) (input table : List ℕ) (answer : Result ℕ Refusal) (exit : List ℕ) : Type 0 where
+  pub says : answer ≡ answering (reading_refusal source input) Err (Ok (length (words_in source input) / 4))
   pub leaves : exit ≡ lent (reading_refusal source input) (words_in source input) table
 
 -- an outcome's bytes, and the answer with their length
@@ -74,7 +73,7 @@ GivesOne = (outcome : Outcome) (out : List ℕ) (a b : Made) (e f : List ℕ) �
 
 -- every refusal that is told has words for what is wrong
 abbrev pub AllWorded : Type 0
-AllWorded = (source : Source) (input : List ℕ) (r : Refusal) → refusal_of source input ≡ some r → wrong_in source r ≡ [] → ⊥
+AllWorded = (source : Source) (input : List ℕ) (r : Refusal) → refusal_of source input ≡ Some r → wrong_in source r ≡ [] → ⊥
 
 -- THE PIPE: what is made of a sheet is a text that is read, whole, as the sheet's words
 abbrev pub Piped : Type 0

@@ -7,7 +7,7 @@ ghost use Rattle.rules.specs.Calls.{Makes};
 ghost use Rattle.wording.specs.Wording.{sentence, too_long, InTable};
 ghost use Rattle.exchange.specs.Exchange.{exchanged, written, told, made_most, ReadsTable, Gives};
 
-use rules::{INPUT_MOST, ReadAnswer, Refusal, WriteAnswer};
+use rules::{INPUT_MOST, Refusal};
 use table::TABLE_MOST;
 use wording::Source;
 
@@ -38,7 +38,7 @@ fn tell_long(out: &mut [u8]) -> Made
 }
 
 // The table of an input. There is room for 64 tasks, and no sheet or set has more.
-fn read_table(source: Source, input: &[u8], table: &mut [u32]) -> ReadAnswer
+fn read_table(source: Source, input: &[u8], table: &mut [u32]) -> Result<u32, Refusal>
     requires { table_most ≤ length table.old }
     ensures { ReadsTable source input.now table.old result table.new }
 {
@@ -54,7 +54,7 @@ fn read_table(source: Source, input: &[u8], table: &mut [u32]) -> ReadAnswer
 }
 
 // The text of a sheet's table, or the sheet of a text's.
-fn write_table(source: Source, table: &[u32], out: &mut [u8]) -> WriteAnswer
+fn write_table(source: Source, table: &[u32], out: &mut [u8]) -> Result<u32, Refusal>
     ensures { Makes (written source) table.now out.old result out.new }
 {
     match source {
@@ -74,12 +74,12 @@ pub fn exchange(source: Source, input: &[u8], out: &mut [u8]) -> Made
     let mut words = [0u32; TABLE_MOST];
     let read = read_table(source, input, &mut words);
     match read {
-        ReadAnswer::Refused(r) => tell(out, source, r),
-        ReadAnswer::Set(n) => {
+        Err(r) => tell(out, source, r),
+        Ok(n) => {
             let written = write_table(source, &words[..4 * n as usize], out);
             match written {
-                WriteAnswer::Refused(r) => tell(out, source, r),
-                WriteAnswer::Written(length) => Made::Bytes(length as usize),
+                Err(r) => tell(out, source, r),
+                Ok(length) => Made::Bytes(length as usize),
             }
         }
     }

@@ -1,10 +1,10 @@
 -- What the calls on one field promise, and that the one for other crates leaves one outcome.
 use Rattle.std.specs.Prelude.{◌≡◌, ℕ, suc, ◌≤◌, List, Bool, true, false, ltb, length, take, drop, if◌then◌else◌}
-use Rattle.std.proofs.Math.Option.{Option, none, some}
 use Rattle.rules.specs.Sheet.{Field, content, no_field, read_plain, read_quoted, read_field, after_end, Step, more, last, no_step, next_field}
 use Rattle.rules.specs.Standing.{standing, standing_step}
 use Rattle.field.specs.declared.Next.{Next}
 use Rattle.field.specs.declared.Next.TheVariants.{More, Last, Wrong}
+use Rattle.std.specs.Prelude.{Option, Some, None}
 
 -- so many bytes stand before the first mark
 pub record Plain (s : List ℕ) (n : ℕ) : Type 0 where
@@ -29,8 +29,8 @@ pub record Finds (s old_body old_rest : List ℕ) (answer : Bool) (body rest : L
 
 -- the answer of a search for the end of a record, with the bytes after it
 abbrev pub ended : Bool → List ℕ → Option (List ℕ)
-ended true rest = some rest
-ended false rest = none
+ended true rest = Some rest
+ended false rest = None
 
 -- a record ends, or rest stays
 pub record Ends (s old_rest : List ℕ) (answer : Bool) (rest : List ℕ) : Type 0 where

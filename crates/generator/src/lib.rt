@@ -24,7 +24,7 @@ pub fn draw(g: &mut Generator) -> u32
 
 // THE SET of a number goes to the start of a table; the answer is the task count, and the state is moved on. Where the table is too short,
 // nothing is.
-pub fn draw_set(g: &mut Generator, number: u32, table: &mut [u32]) -> ReadAnswer
+pub fn draw_set(g: &mut Generator, number: u32, table: &mut [u32]) -> Result<u32, Refusal>
     ensures { DrawsSet g.old.state number table.old result g.new.state table.new }
 {
     let mut state = g.state;
@@ -43,7 +43,7 @@ pub struct Drawn {
 // What a set's draw answered, and the generator after it.
 #[derive(Clone, Copy)]
 pub struct DrawnSet {
-    pub answer: ReadAnswer,
+    pub answer: Result<u32, Refusal>,
     pub after: Generator,
 }
 

@@ -3,14 +3,14 @@
 
 ghost use Rattle.judged.specs.First.{Judges};
 
-use rules::{Refusal, VerdictAnswer};
+use rules::{Refusal, Verdict};
 use scan::Scan;
 use table::TABLE_MOST;
 
 // What is found of the first set: the verdict or the refusal, and how many bytes are left to read.
 #[derive(Clone, Copy)]
 pub struct First {
-    pub answer: VerdictAnswer,
+    pub answer: Result<Verdict, Refusal>,
     pub left: usize,
 }
 
@@ -27,7 +27,7 @@ pub fn judge_first(text: &[u8]) -> First
             left: rest.len(),
         },
         Scan::Stop(l) => First {
-            answer: VerdictAnswer::Refused(Refusal::BadLine(l)),
+            answer: Err(Refusal::BadLine(l)),
             left: 0,
         },
     }

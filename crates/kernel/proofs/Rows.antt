@@ -4,7 +4,6 @@ use Prim.Native.Nat.{ℕ, ◌+◌, ◌-◌, ◌≤◌, ◌<◌}
 use native.Mathlib.Omega.{arith}
 use mathlib.Core.List.{List, [], ◌∷◌, ◌++◌}
 use mathlib.Core.Bool.{Bool, true, false}
-use mathlib.Core.Option.{some}
 use lib.ListN.{length, get_or, length-append, get_or-append}
 use lib.Seq.{get_or_at}
 use Rattle.rules.specs.Sheet.{Record, fields, no_record, before, field_number, row, no_row, read_row}
@@ -13,13 +12,14 @@ use Rattle.rules.proofs.Booleans.{split}
 use Rattle.rules.proofs.Records.{befores, befores_none, befores_more, befores_all, befores_nothing, number_standing}
 use Rattle.rules.proofs.RowSteps.{row_none, row_other, row_right, row_wrong}
 use Rattle.kernel.specs.Kernels.{Stores, Within}
+use Rattle.std.specs.Prelude.{Some}
 
 -- n fields are taken: their contents before what is left are the record due, and each word whose column they have is its number
 pub record Taking (due : Record) (columns words : List ℕ) (n : ℕ) (left : Record) : Type 0 where
   pub contents : List (List ℕ)
   pub reads : befores contents left ≡ due
   pub counted : length contents ≡ n
-  pub numbers : (k : ℕ) → k < 4 → get_or columns k 0 ≤ n → field_number (get_or contents (get_or columns k 0 - 1) []) ≡ some (get_or words k 0)
+  pub numbers : (k : ℕ) → k < 4 → get_or columns k 0 ≤ n → field_number (get_or contents (get_or columns k 0 - 1) []) ≡ Some (get_or words k 0)
 
 module _ (due : Record) (columns : List ℕ) (count : ℕ) (in_header : Within columns count) where
   pub none_taken : (words : List ℕ) → Taking due columns words 0 due
@@ -80,7 +80,7 @@ module _ (due : Record) (columns : List ℕ) (count : ℕ) (in_header : Within c
                   (λ m.
                   ap field_number (get_or-append so_far.contents (c ∷ []) [] (get_or columns k 0 - 1) (omega (arith, in_header.from_one k h, so_far.counted)))
                   ∙ so_far.numbers k h m
-                  ∙ ap some (sym (stores.elsewhere k h (λ e. omega arith))))
+                  ∙ ap Some (sym (stores.elsewhere k h (λ e. omega arith))))
                   (λ m.
                   let here : get_or columns k 0 ≡ n + 1 = omega arith in
                   ap field_number (at_last k here) ∙ sym number ∙ stores.here t k h here);

@@ -1,23 +1,23 @@
 -- What the calls on the records after a header promise.
 use Rattle.std.specs.Prelude.{◌≡◌, ℕ, ◌*◌, ◌≤◌, ◌<◌, List, [], Bool, true, false, length, take, get_or}
-use Rattle.std.proofs.Math.Option.{Option, none, some}
 use Rattle.rules.specs.Numbers.{task_most}
 use Rattle.rules.specs.Sheet.{read_record, field_number, Row, row, no_row, read_row, Sheet, tasks, wrong, read_tasks}
 use Rattle.lines.specs.declared.Number.{Number}
 use Rattle.lines.specs.declared.Number.TheVariants.{Value, Wrong}
 use Rattle.kernel.specs.declared.Kernels.{Kernels}
+use Rattle.std.specs.Prelude.{Option, Some, None}
 
 -- the answer of a search for a number
 abbrev pub number_of : Number → Option ℕ
-number_of (Value v) = some v
-number_of Wrong = none
+number_of (Value v) = Some v
+number_of Wrong = None
 
 -- the number of a field goes to each word whose column it is, and the others stay; or it is no number where one is asked for
 pub record Stores (body : List ℕ) (column : ℕ) (columns old : List ℕ) (answer : Bool) (exit : List ℕ) : Type 0 where
   pub four : length exit ≡ length old
-  pub here : answer ≡ true → (k : ℕ) → k < 4 → get_or columns k 0 ≡ column → field_number body ≡ some (get_or exit k 0)
+  pub here : answer ≡ true → (k : ℕ) → k < 4 → get_or columns k 0 ≡ column → field_number body ≡ Some (get_or exit k 0)
   pub elsewhere : (k : ℕ) → k < 4 → (get_or columns k 0 ≡ column → ⊥) → get_or exit k 0 ≡ get_or old k 0
-  pub none_here : answer ≡ false → (k : ℕ) × (k < 4) × (get_or columns k 0 ≡ column) × (field_number body ≡ none)
+  pub none_here : answer ≡ false → (k : ℕ) × (k < 4) × (get_or columns k 0 ≡ column) × (field_number body ≡ None)
 
 -- the columns of the four names are columns of the header, which are counted from 1
 pub record Within (columns : List ℕ) (count : ℕ) : Type 0 where

@@ -1,14 +1,14 @@
 -- What the calls that read one line promise, and that each promise leaves one outcome.
 use Rattle.std.specs.Prelude.{◌≡◌, ℕ, List, Bool, true, false}
-use Rattle.std.proofs.Math.Option.{Option, none, some}
 use Rattle.rules.specs.Text.{Read, got, bad, after_key}
 use Rattle.lines.specs.declared.Number.{Number}
 use Rattle.lines.specs.declared.Number.TheVariants.{Value, Wrong}
+use Rattle.std.specs.Prelude.{Option, Some, None}
 
 -- the answer of a search for a key, with the bytes left
 abbrev pub found : Bool → List ℕ → Option (List ℕ)
-found true rest = some rest
-found false rest = none
+found true rest = Some rest
+found false rest = None
 
 -- the answer of a search for a number, with the bytes left
 abbrev pub seen : Number → List ℕ → Read

@@ -34,7 +34,7 @@ pub fn refusal_carries(r: Refusal) -> Carried
         Refusal::OutOfRange(i) => Carried::Word(i),
         Refusal::BadLine(l) => Carried::Line(l),
         Refusal::BadRecord(l) => Carried::Record(l),
-        _ => Carried::Nothing,
+        _ => None,
     }
 }
 

@@ -10,14 +10,15 @@ use Rattle.rules.specs.Numbers.{input_most}
 use Rattle.rules.specs.Text.{bytes}
 use Rattle.rules.specs.Report.{set_lines, set_rest, sets_lines, output}
 use Rattle.rules.specs.Calls.{Reports}
-use Rattle.rules.specs.declared.ReportAnswer.{ReportAnswer}
-use Rattle.rules.specs.declared.ReportAnswer.TheVariants.{Reported}
 use Rattle.rules.proofs.Slices.{part, lent_end, end_back}
 use Rattle.rules.proofs.Calls.{report_lines}
 use Rattle.rules.proofs.Printed.{rest_end, sets_last, sets_more, output_long, output_sets}
 use Rattle.rules.proofs.Lengths.{rest_fewer, lines_most}
 use Rattle.print.specs.Place.{Puts}
 use Rattle.output.specs.Output.{output_most, Outputs}
+use Rattle.std.specs.Prelude.{Result}
+use Rattle.rules.specs.declared.Refusal.{Refusal}
+use Rattle.rules.specs.declared.Reported.{Reported}
 
 -- an input that is too long: its one line stands at the start
 pub too_long : (input old : List ℕ) {size : ℕ} {exit : List ℕ} → input_most < length input → Puts old 0 (bytes "toolong" ++ (10 ∷ [])) size exit → Outputs input old size exit
@@ -66,7 +67,7 @@ module _ (input old out : List ℕ) (number left at : ℕ) (so_far : SoFar input
   fits = omega (arith, so_far.first, so_far.taken, so_far.printed)
 
   -- so the report is not refused
-  module _ (answer : ReportAnswer) (exit : List ℕ)
+  module _ (answer : Result Reported Refusal) (exit : List ℕ)
       (reports : Reports number (take (length input - (length input - left)) (drop (length input - left) input)) (take (length out - at) (drop at out)) answer exit) where
     reported : Reports number text (drop at old) answer exit
     reported = rw (part (length input - left) input, lent_end so_far.lines (drop at old) out at so_far.many so_far.stands) at reports

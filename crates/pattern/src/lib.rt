@@ -7,34 +7,34 @@ ghost use Rattle.rules.specs.Calls.{Shows};
 ghost use Rattle.pattern.specs.OneLate.{OneLate};
 
 use dispatch::dispatch;
-use rules::{PatternAnswer, Plan, Refusal, ScheduleAnswer, TableAnswer, Verdict};
+use rules::{Plan, Refusal, Timing, Verdict};
 use table::check_table;
 use verdict::judge_table;
 
 // The row count in the dispatcher's answer.
-fn rows_of(answer: ScheduleAnswer) -> PatternAnswer
+fn rows_of(answer: Result<Timing, Refusal>) -> Result<u64, Refusal>
     ensures { result ≡ rows_of answer }
 {
     match answer {
-        ScheduleAnswer::OnTime(n) => PatternAnswer::Rows(n),
+        ScheduleAnswer::OnTime(n) => Ok(n),
         ScheduleAnswer::Late {
             rows,
             task: _,
             job: _,
             deadline: _,
-        } => PatternAnswer::Rows(rows),
-        ScheduleAnswer::Refused(why) => PatternAnswer::Refused(why),
+        } => Ok(rows),
+        Err(why) => Err(why),
     }
 }
 
 // Writes the rows of the pattern behind a "misses" to the start of a lent buffer, and says how many; or refused, and then nothing is written.
-pub fn pattern(table: &[u32], rows: &mut [u64]) -> PatternAnswer
+pub fn pattern(table: &[u32], rows: &mut [u64]) -> Result<u64, Refusal>
     ensures shows { Shows table.now rows.old result rows.new }
     ensures late { OneLate table.now result }
 {
     let answer = check_table(table);
-    if let TableAnswer::Refused(why) = answer {
-        return PatternAnswer::Refused(why);
+    if let Err(why) = answer {
+        return Err(why);
     }
     let judged = judge_table(table);
     match judged {
@@ -42,7 +42,7 @@ pub fn pattern(table: &[u32], rows: &mut [u64]) -> PatternAnswer
             let timed = dispatch(table, Plan::Named(length, blocker), rows);
             rows_of(timed)
         }
-        Verdict::Meets(_) => PatternAnswer::Refused(Refusal::NotMisses),
-        Verdict::TooFar => PatternAnswer::Refused(Refusal::NotMisses),
+        Verdict::Meets(_) => Err(Refusal::NotMisses),
+        Verdict::TooFar => Err(Refusal::NotMisses),
     }
 }

@@ -8,12 +8,12 @@ ghost use Rattle.rules.specs.Answers.{check_number};
 use rules::VerdictAnswer;
 
 // The number of an answer.
-fn answer_number(answer: VerdictAnswer) -> u32
+fn answer_number(answer: Result<Verdict, Refusal>) -> u32
     ensures { result ≡ number_told (verdict_told answer) }
 {
     match answer {
-        VerdictAnswer::Judged(v) => numbers::verdict_number(v),
-        VerdictAnswer::Refused(r) => numbers::refusal_number(r),
+        Ok(v) => numbers::verdict_number(v),
+        Err(r) => numbers::refusal_number(r),
     }
 }
 

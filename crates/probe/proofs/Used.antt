@@ -5,11 +5,12 @@ use native.Mathlib.Omega.{arith}
 use mathlib.Core.List.{List}
 use lib.ListN.{length}
 use Rattle.rules.specs.Calls.{Reads}
-use Rattle.rules.specs.declared.ReadAnswer.{ReadAnswer}
 use Rattle.rules.proofs.Calls.{read_stops, read_short, read_set_law}
 use Rattle.rules.proofs.Reading.{Ending, at_line, no_room, whole, ending, shorter}
+use Rattle.std.specs.Prelude.{Result}
+use Rattle.rules.specs.declared.Refusal.{Refusal}
 
-pub rest_within : (text table : List ℕ) {answer : ReadAnswer} {rest exit : List ℕ} → Reads text table answer rest exit → length rest ≤ length text
+pub rest_within : (text table : List ℕ) {answer : Result ℕ Refusal} {rest exit : List ℕ} → Reads text table answer rest exit → length rest ≤ length text
 rest_within text table {rest = rest} reads = by_ending (ending text table)
   where
     by_ending : Ending text table → length rest ≤ length text

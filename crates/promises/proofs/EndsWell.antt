@@ -13,12 +13,12 @@ use Rattle.rules.specs.Generator.{next_state, drawn, draw_answer, draw_state, dr
 use Rattle.rules.specs.Calls.{Makes}
 use Rattle.rules.specs.declared.Refusal.{Refusal}
 use Rattle.rules.specs.declared.Refusal.TheVariants.{NoWord, NotFours, TooManyWords, OutOfRange, BadEnd, TooShort, BadLine, NotMisses, NoHeader, BadRecord, NoRecord}
-use Rattle.rules.specs.declared.WriteAnswer.{WriteAnswer}
 use Rattle.rules.proofs.Untouched.{read_untouched, write_untouched, schedule_untouched, pattern_untouched, report_untouched, draw_untouched, sheet_untouched}
 use Rattle.promises.specs.Demands.{One, EndsWell, Untouched}
+use Rattle.std.specs.Prelude.{Result}
 
 -- a writer, whatever is made
-making : (make : List ℕ → List ℕ) (table out : List ℕ) → One (WriteAnswer × List ℕ) (λ o. Makes make table out o.0 o.1)
+making : (make : List ℕ → List ℕ) (table out : List ℕ) → One (Result ℕ Refusal × List ℕ) (λ o. Makes make table out o.0 o.1)
 making make table out = record {
   outcome = (make_answer make table out, make_buffer make table out);
   as_due = record { says = refl; leaves = refl };

@@ -1,7 +1,6 @@
 -- What the verdict call gives, and what is said of the first set of a text, is exactly what the paper's tables have.
 use mathlib.Core.Path.{◌≡◌, refl, sym, ap, subst}
 use mathlib.Core.Logic.{◌↔◌}
-use mathlib.Core.Option.{Option, none, some}
 use Prim.Native.Nat.{ℕ, ◌+◌, ◌-◌}
 use native.Mathlib.Omega.{arith}
 use mathlib.Core.List.{List, [], ◌∷◌}
@@ -13,7 +12,6 @@ use Rattle.rules.specs.Demand.{total_due, longest_wait, blocker, fails, verdict}
 use Rattle.rules.specs.Text.{Lines, took, stop, read_set}
 use Rattle.rules.specs.Answers.{verdict_answer, first_answer}
 use Rattle.rules.specs.declared.Refusal.{Refusal}
-use Rattle.rules.specs.declared.Blocker.{Blocker}
 use Rattle.rules.specs.declared.Verdict.{Verdict}
 use Rattle.rules.proofs.Blockers.{blocker_task, blocker_nobody}
 use Rattle.rules.proofs.Calls.{verdict_refused, verdict_judged, first_stops, first_read}
@@ -21,13 +19,14 @@ use Rattle.rules.proofs.SetTrips.{set_back}
 use Rattle.promises.specs.Tables.{Least, TableTells, one, two, three, four, VerdictTells, JudgeTells, FirstTells}
 use Rattle.promises.proofs.Exact.{table_tells, told_table, fine_not, not_fine}
 use Rattle.promises.proofs.Kept.{exactly}
+use Rattle.std.specs.Prelude.{Option, Some, None}
 
 -- THE VERDICT on tasks
 module _ (ts : List Task) where
   -- by the blocker, who is a task exactly if Wait(L) is above 0
-  blocked : (L : ℕ) → Least (λ K. fails K ts) L → (b : Blocker) → blocker L ts ≡ b → VerdictTells ts (judged_told (Verdict.Misses L b (total_due L ts + longest_wait L ts - L)))
-  blocked L l (Blocker.Task b) e = let x = (blocker_task L ts b).0 e in VerdictTells.misses l x.0 x.1
-  blocked L l Blocker.Nobody e = VerdictTells.misses_alone l ((blocker_nobody L ts).0 e)
+  blocked : (L : ℕ) → Least (λ K. fails K ts) L → (b : Option ℕ) → blocker L ts ≡ b → VerdictTells ts (judged_told (Verdict.Misses L b (total_due L ts + longest_wait L ts - L)))
+  blocked L l (Some b) e = let x = (blocker_task L ts b).0 e in VerdictTells.misses l x.0 x.1
+  blocked L l None e = VerdictTells.misses_alone l ((blocker_nobody L ts).0 e)
 
   verdict_stands : VerdictTells ts (judged_told (verdict ts))
   verdict_stands = go (verdict ts) refl
@@ -39,9 +38,9 @@ module _ (ts : List Task) where
 
   verdict_lines : (t : Told) → VerdictTells ts t → judged_told (verdict ts) ≡ t
   verdict_lines t (VerdictTells.misses {L = L} {b = b} l w x) =
-      ap judged_told ((exactly ts (Verdict.Misses L (Blocker.Task b) _)).1 (l, sym ((blocker_task L ts b).1 (w, x)), refl))
+      ap judged_told ((exactly ts (Verdict.Misses L (Some b) _)).1 (l, sym ((blocker_task L ts b).1 (w, x)), refl))
   verdict_lines t (VerdictTells.misses_alone {L = L} l w) =
-      ap judged_told ((exactly ts (Verdict.Misses L Blocker.Nobody _)).1 (l, sym ((blocker_nobody L ts).1 w), refl))
+      ap judged_told ((exactly ts (Verdict.Misses L None _)).1 (l, sym ((blocker_nobody L ts).1 w), refl))
   verdict_lines t (VerdictTells.meets {σ = σ} n l) = ap judged_told ((exactly ts (Verdict.Meets σ)).1 (n, l))
   verdict_lines t (VerdictTells.too_far n m) = ap judged_told ((exactly ts Verdict.TooFar).1 (n, m))
 
@@ -51,8 +50,8 @@ module _ (table : List ℕ) where
   judge_stands = go (table_refusal table) refl
     where
       go : (o : Option Refusal) → table_refusal table ≡ o → JudgeTells table (verdict_told (verdict_answer table))
-      go (some r) e = rw (verdict_refused table r e) (JudgeTells.refused (table_tells table r e))
-      go none e = rw (verdict_judged table e) (JudgeTells.judged (not_fine table e) (verdict_stands (tasks_of table)))
+      go (Some r) e = rw (verdict_refused table r e) (JudgeTells.refused (table_tells table r e))
+      go None e = rw (verdict_judged table e) (JudgeTells.judged (not_fine table e) (verdict_stands (tasks_of table)))
 
   judge_lines : (t : Told) → JudgeTells table t → verdict_told (verdict_answer table) ≡ t
   judge_lines t (JudgeTells.refused x) = let r = told_table table t x in rw (verdict_refused table r.0 r.1) r.2

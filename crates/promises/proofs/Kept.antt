@@ -5,7 +5,6 @@ use Prim.Native.Nat.{ℕ, ◌≤◌, ◌<◌}
 use native.Mathlib.Omega.{arith}
 use mathlib.Core.List.{List}
 use mathlib.Core.Bool.{Bool, true, false}
-use mathlib.Core.Option.{Option, none, some}
 use Rattle.rules.specs.Task.{tasks_of, AllSound}
 use Rattle.rules.specs.declared.Task.{Task}
 use Rattle.rules.specs.Table.{table_refusal}
@@ -27,6 +26,7 @@ use Rattle.promises.specs.Tables.{Least}
 use Rattle.promises.specs.Demands.{InTime, MakesLate, Condition, Kept, KeptBy, TrueOfEveryPattern}
 use Rattle.promises.specs.Sharper.{Sharper}
 use Rattle.promises.proofs.Whole.{legal_whole}
+use Rattle.std.specs.Prelude.{Option, Some, None}
 
 -- the least number that passes, as the laws of the search have it
 least_of : (p : ℕ → Bool) (x : ℕ) → First p x → Least p x
@@ -74,7 +74,7 @@ module _ (ts : List Task) (sound : AllSound ts) where
   }
 
 -- so for every table
-pub kept_table : (table : List ℕ) → table_refusal table ≡ none → Kept (tasks_of table) (verdict (tasks_of table))
+pub kept_table : (table : List ℕ) → table_refusal table ≡ None → Kept (tasks_of table) (verdict (tasks_of table))
 kept_table table e = kept (tasks_of table) (table_sound table e)
 
 -- and the verdict call's answer
@@ -82,8 +82,8 @@ pub kept_by : (table : List ℕ) → KeptBy table (verdict_answer table)
 kept_by table = go (table_refusal table) refl
   where
     go : (o : Option Refusal) → table_refusal table ≡ o → KeptBy table (verdict_answer table)
-    go none e = rw (verdict_judged table e) (kept_table table e)
-    go (some r) e = rw (verdict_refused table r e) tt
+    go None e = rw (verdict_judged table e) (kept_table table e)
+    go (Some r) e = rw (verdict_refused table r e) tt
 
 pub true_of_every_pattern : TrueOfEveryPattern
 true_of_every_pattern = record {

@@ -1,7 +1,6 @@
 -- The program prints, set after set, the lines that the paper has for what is told of each.
 use mathlib.Core.Path.{◌≡◌, refl, sym, ap, subst, ◌∙◌}
 use mathlib.Core.Logic.{◌↔◌}
-use mathlib.Core.Option.{Option, none, some}
 use Prim.Native.Nat.{ℕ, zero, suc, ◌≤◌, ◌<◌}
 use native.Mathlib.Omega.{arith}
 use native.Mathlib.Decide.{dec_lt}
@@ -15,7 +14,6 @@ use Rattle.rules.specs.Text.{Lines, took, stop, bytes, digits, line, read_set}
 use Rattle.rules.specs.Answers.{verdict_answer, first_answer}
 use Rattle.rules.specs.Report.{verdict_lines, answer_lines, set_lines, set_rest, sets_lines, output}
 use Rattle.rules.specs.declared.Refusal.{Refusal}
-use Rattle.rules.specs.declared.Blocker.{Blocker}
 use Rattle.rules.specs.declared.Verdict.{Verdict}
 use Rattle.rules.proofs.Refused.{TableSays, no_word, not_fours, too_many, out_of_range_law, table_says}
 use Rattle.rules.proofs.Calls.{verdict_refused, verdict_judged, first_stops, first_read}
@@ -24,12 +22,13 @@ use Rattle.rules.proofs.Printed.{lines_are, sets_last, sets_more, output_sets}
 use Rattle.rules.proofs.Lengths.{rest_fewer}
 use Rattle.promises.specs.Tables.{FirstTells, Prints, Run}
 use Rattle.promises.proofs.Judged.{first_tells}
+use Rattle.std.specs.Prelude.{Option, Some, None}
 
 -- the lines of a verdict
 judged_prints : (v : Verdict) → Prints (judged_told v) (verdict_lines v)
 judged_prints (Verdict.Meets σ) = Prints.meets
-judged_prints (Verdict.Misses L (Blocker.Task b) over) = Prints.misses
-judged_prints (Verdict.Misses L Blocker.Nobody over) = Prints.misses_alone
+judged_prints (Verdict.Misses L (Some b) over) = Prints.misses
+judged_prints (Verdict.Misses L None over) = Prints.misses_alone
 judged_prints Verdict.TooFar = Prints.too_far
 
 -- the lines of the first set
@@ -38,11 +37,11 @@ first_prints text = go (read_set text) refl
   where
     by_table : (ws after : List ℕ) → read_set text ≡ took ws after → (o : Option Refusal) → table_refusal ws ≡ o → TableSays ws o
         → Prints (verdict_told (verdict_answer ws)) (answer_lines (verdict_answer ws))
-    by_table ws after e none f x = rw (verdict_judged ws f) (judged_prints (verdict (tasks_of ws)))
-    by_table ws after e (some r) f (no_word a) = let s = set_back text ws after e in absurd (omega arith)
-    by_table ws after e (some r) f (not_fours a b) = let s = set_back text ws after e in absurd (b (omega arith))
-    by_table ws after e (some r) f (too_many a b c) = let s = set_back text ws after e in absurd (omega arith)
-    by_table ws after e (some r) f (out_of_range_law a b c y) = rw (verdict_refused ws r f) Prints.four
+    by_table ws after e None f x = rw (verdict_judged ws f) (judged_prints (verdict (tasks_of ws)))
+    by_table ws after e (Some r) f (no_word a) = let s = set_back text ws after e in absurd (omega arith)
+    by_table ws after e (Some r) f (not_fours a b) = let s = set_back text ws after e in absurd (b (omega arith))
+    by_table ws after e (Some r) f (too_many a b c) = let s = set_back text ws after e in absurd (omega arith)
+    by_table ws after e (Some r) f (out_of_range_law a b c y) = rw (verdict_refused ws r f) Prints.four
 
     go : (x : Lines) → read_set text ≡ x → Prints (verdict_told (first_answer text)) (answer_lines (first_answer text))
     go (stop l) e = rw (first_stops text l e) Prints.seven

@@ -9,11 +9,12 @@ use lib.ListN.{length, drop}
 use Rattle.rules.specs.declared.Task.{Task}
 use Rattle.rules.specs.Told.{Told, read_told}
 use Rattle.rules.specs.Generator.{count_drawn, set_drawn, words_of, words_drawn, state_after_set, Draws, draw_answer, draw_state, draw_table, DrawsSet}
-use Rattle.rules.specs.declared.ReadAnswer.{ReadAnswer}
 use Rattle.rules.proofs.Drawn.{length_set_drawn, length_words_drawn, set_refused, set_given}
 use Rattle.rules.proofs.DrawnSets.{draw_when, seed_gives, seed_only, tasks_back, words_back}
 use Rattle.promises.specs.Tables.{WordsFor, SetTells}
 use Rattle.promises.proofs.Exact.{along}
+use Rattle.std.specs.Prelude.{Result, Ok}
+use Rattle.rules.specs.declared.Refusal.{Refusal}
 
 -- A DRAW
 pub draw_tells : (s n after : ℕ) → Draws s n after ↔ ((after ≡ (1664525 * s + 1013904223) % 4294967296) × (n ≡ after / 65536))
@@ -22,14 +23,14 @@ draw_tells = draw_when
 -- A SET
 module _ (s number : ℕ) (table : List ℕ) where
   -- an outcome that the contract allows is the one given
-  set_told : {t : Told} {a : ReadAnswer} {after : ℕ} {exit : List ℕ} → read_told a ≡ t → DrawsSet s number table a after exit
+  set_told : {t : Told} {a : Result ℕ Refusal} {after : ℕ} {exit : List ℕ} → read_told a ≡ t → DrawsSet s number table a after exit
       → (read_told (draw_answer s number table) ≡ t) × (draw_state s number table ≡ after) × (draw_table s number table ≡ exit)
   set_told e c = (rw (← c.says) e, sym c.moves, sym c.leaves)
 
   abbrev Stands : Type 0
   Stands = SetTells s number table (read_told (draw_answer s number table)) (draw_state s number table) (draw_table s number table)
 
-  stands : {a : ReadAnswer} {after : ℕ} {exit : List ℕ} → DrawsSet s number table a after exit → SetTells s number table (read_told a) after exit → Stands
+  stands : {a : Result ℕ Refusal} {after : ℕ} {exit : List ℕ} → DrawsSet s number table a after exit → SetTells s number table (read_told a) after exit → Stands
   stands c h = rw (← c.says, ← c.moves, ← c.leaves) h
 
   -- the paper's words are those of the definitions
@@ -47,7 +48,7 @@ module _ (s number : ℕ) (table : List ℕ) where
       go (no h) =
           let m : length (words_drawn number s) ≡ 4 * length (set_drawn number s) = omega (arith, n, length_words_drawn number s) in
           stands (set_given s number table (omega arith))
-          (subst (λ (k : ℕ). SetTells s number table (read_told (ReadAnswer.Set k)) (state_after_set s) (words_drawn number s ++ drop (4 * k) table)) n
+          (subst (λ (k : ℕ). SetTells s number table (read_told (Ok k)) (state_after_set s) (words_drawn number s ++ drop (4 * k) table)) n
           (SetTells.set (seed_gives s number) (omega (arith, n)) (record { four_each = m; in_order = tasks_back (set_drawn number s) })))
 
   set_lines_law : (t : Told) (after : ℕ) (exit : List ℕ) → SetTells s number table t after exit
@@ -59,9 +60,9 @@ module _ (s number : ℕ) (table : List ℕ) where
       let both = seed_only s number d in
       let n : length ts ≡ count_drawn s = ap (λ (us : List Task). length us) both.0 ∙ length_set_drawn number s in
       let g = set_given s number table (omega arith) in
-      let c : DrawsSet s number table (ReadAnswer.Set (length ts)) after (ws ++ drop (4 * length ts) table) =
+      let c : DrawsSet s number table (Ok (length ts)) after (ws ++ drop (4 * length ts) table) =
       record {
-        says = ap ReadAnswer.Set n ∙ g.says;
+        says = ap Ok n ∙ g.says;
         moves = both.1 ∙ g.moves;
         leaves = ap₂ (λ (x : List ℕ) (k : ℕ). x ++ drop (4 * k) table) (words_are both.0 w) n ∙ g.leaves;
       }

@@ -14,8 +14,6 @@ use Rattle.rules.specs.Sheets.{Header, Tasks}
 use Rattle.rules.specs.Answers.{read_sheet_answer, read_sheet_table}
 use Rattle.rules.specs.Calls.{ReadsSheet, WritesSheet}
 use Rattle.rules.specs.declared.Refusal.TheVariants.{TooShort}
-use Rattle.rules.specs.declared.ReadAnswer.{ReadAnswer}
-use Rattle.rules.specs.declared.WriteAnswer.{WriteAnswer}
 use Rattle.rules.proofs.Booleans.{impossible}
 use Rattle.rules.proofs.Tables.{valid_of}
 use Rattle.rules.proofs.SheetRecords.{kernel_words, sheet_none, sheet_wrong, sheet_tasks, sheet_fours}
@@ -25,6 +23,8 @@ use Rattle.promises.specs.Tables.{SheetTells}
 use Rattle.promises.specs.Demands.{SheetTrips}
 use Rattle.promises.proofs.Exact.{exact}
 use Rattle.promises.proofs.Trips.{wrote}
+use Rattle.std.specs.Prelude.{Result, Ok, Err}
+use Rattle.rules.specs.declared.Refusal.{Refusal}
 
 -- records of tasks with no words are no records
 no_words : {hs : List (List ℕ)} {s ws : List ℕ} → Tasks hs s ws → length ws ≡ 0 → s ≡ []
@@ -33,14 +33,14 @@ no_words (Tasks.more {ws = ws} {vs = vs} n k t) e = absurd (omega (arith, kernel
 
 -- THE SHEET'S READER
 module _ (sheet table : List ℕ) where
-  sheet_given : {t : Told} {a : ReadAnswer} {exit : List ℕ} → read_told a ≡ t → ReadsSheet sheet table a exit
+  sheet_given : {t : Told} {a : Result ℕ Refusal} {exit : List ℕ} → read_told a ≡ t → ReadsSheet sheet table a exit
       → (read_told (read_sheet_answer sheet table) ≡ t) × (read_sheet_table sheet table ≡ exit)
   sheet_given e c = (rw (← c.says) e, sym c.leaves)
 
   abbrev Stands : Type 0
   Stands = SheetTells sheet table (read_told (read_sheet_answer sheet table)) (read_sheet_table sheet table)
 
-  stands : {a : ReadAnswer} {exit : List ℕ} → ReadsSheet sheet table a exit → SheetTells sheet table (read_told a) exit → Stands
+  stands : {a : Result ℕ Refusal} {exit : List ℕ} → ReadsSheet sheet table a exit → SheetTells sheet table (read_told a) exit → Stands
   stands c h = rw (← c.says, ← c.leaves) h
 
   sheet_stands : Stands
@@ -68,17 +68,17 @@ module _ (sheet table : List ℕ) where
   sheet_tells = exact (SheetTells sheet table) sheet_stands sheet_lines
 
 -- the sheet that was written, read: the words of the table, which has some
-read_back : (table out sheet : List ℕ) (n : ℕ) → WritesSheet table out (WriteAnswer.Written n) sheet → read_sheet (take n sheet) ≡ tasks table
+read_back : (table out sheet : List ℕ) (n : ℕ) → WritesSheet table out (Ok n) sheet → read_sheet (take n sheet) ≡ tasks table
 read_back table out sheet n w = let x = wrote write_sheet table out sheet n w in ap read_sheet x.made ∙ sheet_then_table table x.fine
 
-some_words : (table out sheet : List ℕ) (n : ℕ) → WritesSheet table out (WriteAnswer.Written n) sheet → 0 < length table
+some_words : (table out sheet : List ℕ) (n : ℕ) → WritesSheet table out (Ok n) sheet → 0 < length table
 some_words table out sheet n w =
     let v = valid_of table (wrote write_sheet table out sheet n w).fine in
     omega (arith, v.words, v.some_task)
 
 -- whatever table it was read into, the words of the table stand at its start
-words_back : (table out sheet : List ℕ) (n : ℕ) → WritesSheet table out (WriteAnswer.Written n) sheet
-    → (room words : List ℕ) (k : ℕ) → ReadsSheet (take n sheet) room (ReadAnswer.Set k) words → take (4 * k) words ≡ table
+words_back : (table out sheet : List ℕ) (n : ℕ) → WritesSheet table out (Ok n) sheet
+    → (room words : List ℕ) (k : ℕ) → ReadsSheet (take n sheet) room (Ok k) words → take (4 * k) words ≡ table
 words_back table out sheet n w room words k r = by_room (dec_lt (length room) (length table))
   where
     read : read_sheet (take n sheet) ≡ tasks table
@@ -86,11 +86,11 @@ words_back table out sheet n w room words k r = by_room (dec_lt (length room) (l
 
     by_room : Dec (length room < length table) → take (4 * k) words ≡ table
     by_room (yes h) =
-        let f : ReadAnswer.Set k ≡ ReadAnswer.Refused TooShort = r.says ∙ sym (sheet_short (take n sheet) room table read (some_words table out sheet n w) h).says in
+        let f : Ok k ≡ Err TooShort = r.says ∙ sym (sheet_short (take n sheet) room table read (some_words table out sheet n w) h).says in
         impossible cc
     by_room (no h) =
         let o = sheet_set (take n sheet) room table read (some_words table out sheet n w) (omega arith) in
-        let f : ReadAnswer.Set k ≡ ReadAnswer.Set (length table / 4) = r.says ∙ sym o.says in
+        let f : Ok k ≡ Ok (length table / 4) = r.says ∙ sym o.says in
         let m : k ≡ length table / 4 = cc in
         ap (take (4 * k)) (r.leaves ∙ sym o.leaves)
         ∙ take_at table (drop (length table) room) (4 * k) (omega (arith, sheet_fours (take n sheet) table read))

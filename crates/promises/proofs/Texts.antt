@@ -1,7 +1,6 @@
 -- What the reader, the writers and the report give is exactly what the paper's tables have.
 use mathlib.Core.Path.{◌≡◌, refl, sym, subst}
 use mathlib.Core.Logic.{◌↔◌}
-use mathlib.Core.Option.{Option, none, some}
 use Prim.Native.Nat.{ℕ, ◌≤◌, ◌<◌}
 use native.Mathlib.Omega.{arith}
 use native.Mathlib.Decide.{dec_lt}
@@ -14,24 +13,23 @@ use Rattle.rules.specs.Answers.{read_answer, read_table, read_rest, make_answer,
 use Rattle.rules.specs.Report.{set_lines, report_answer, report_buffer}
 use Rattle.rules.specs.Calls.{Reads, Makes, Reports}
 use Rattle.rules.specs.declared.Refusal.{Refusal}
-use Rattle.rules.specs.declared.ReadAnswer.{ReadAnswer}
-use Rattle.rules.specs.declared.WriteAnswer.{WriteAnswer}
-use Rattle.rules.specs.declared.ReportAnswer.{ReportAnswer}
 use Rattle.rules.proofs.Calls.{read_stops, read_short, read_set_law, write_refused, write_short, write_made, report_short, report_lines}
 use Rattle.promises.specs.Tables.{ReaderTells, WriterTells, ReportTells}
 use Rattle.promises.proofs.Exact.{along, exact, table_tells, told_table, fine_not, not_fine}
+use Rattle.std.specs.Prelude.{Option, Some, None, Result}
+use Rattle.rules.specs.declared.Reported.{Reported}
 
 -- THE READER
 module _ (text table : List ℕ) where
   -- an outcome that the contract allows is the one given
-  read_given : {t : Told} {a : ReadAnswer} {rest exit : List ℕ} → read_told a ≡ t → Reads text table a rest exit
+  read_given : {t : Told} {a : Result ℕ Refusal} {rest exit : List ℕ} → read_told a ≡ t → Reads text table a rest exit
       → (read_told (read_answer text table) ≡ t) × (read_rest text table ≡ rest) × (read_table text table ≡ exit)
   read_given e c = (rw (← c.says) e, sym c.hands_back, sym c.leaves)
 
   abbrev Stands : Type 0
   Stands = ReaderTells text table (read_told (read_answer text table)) (read_rest text table) (read_table text table)
 
-  stands : {a : ReadAnswer} {rest exit : List ℕ} → Reads text table a rest exit → ReaderTells text table (read_told a) rest exit → Stands
+  stands : {a : Result ℕ Refusal} {rest exit : List ℕ} → Reads text table a rest exit → ReaderTells text table (read_told a) rest exit → Stands
   stands c h = rw (← c.says, ← c.hands_back, ← c.leaves) h
 
   read_stands : Stands
@@ -60,28 +58,28 @@ module _ (text table : List ℕ) where
 
 -- A WRITER
 module _ (make : List ℕ → List ℕ) (table out : List ℕ) where
-  write_given : {t : Told} {a : WriteAnswer} {exit : List ℕ} → write_told a ≡ t → Makes make table out a exit
+  write_given : {t : Told} {a : Result ℕ Refusal} {exit : List ℕ} → write_told a ≡ t → Makes make table out a exit
       → (write_told (make_answer make table out) ≡ t) × (make_buffer make table out ≡ exit)
   write_given e c = (rw (← c.says) e, sym c.leaves)
 
   abbrev Written : Type 0
   Written = WriterTells make table out (write_told (make_answer make table out)) (make_buffer make table out)
 
-  written : {a : WriteAnswer} {exit : List ℕ} → Makes make table out a exit → WriterTells make table out (write_told a) exit → Written
+  written : {a : Result ℕ Refusal} {exit : List ℕ} → Makes make table out a exit → WriterTells make table out (write_told a) exit → Written
   written c h = rw (← c.says, ← c.leaves) h
 
   write_stands : Written
   write_stands = go (table_refusal table) refl
     where
-      room : table_refusal table ≡ none → Dec (length out < length (make table)) → Written
+      room : table_refusal table ≡ None → Dec (length out < length (make table)) → Written
       room e (yes h) = written (write_short table out e h) (WriterTells.six (not_fine table e) h)
       room e (no h) =
           let k : length (make table) ≤ length out = omega arith in
           written (write_made table out e k) (WriterTells.made (not_fine table e) k)
 
       go : (o : Option Refusal) → table_refusal table ≡ o → Written
-      go (some r) e = written (write_refused table out r e) (WriterTells.refused (table_tells table r e))
-      go none e = room e (dec_lt (length out) (length (make table)))
+      go (Some r) e = written (write_refused table out r e) (WriterTells.refused (table_tells table r e))
+      go None e = room e (dec_lt (length out) (length (make table)))
 
   write_lines : (t : Told) (exit : List ℕ) → WriterTells make table out t exit → (write_told (make_answer make table out) ≡ t) × (make_buffer make table out ≡ exit)
   write_lines t exit (WriterTells.refused x) = let r = told_table table t x in write_given r.2 (write_refused table out r.0 r.1)
@@ -93,7 +91,7 @@ module _ (make : List ℕ → List ℕ) (table out : List ℕ) where
 
 -- THE REPORT OF ONE SET
 module _ (n : ℕ) (text out : List ℕ) where
-  report_given : {t : Told} {a : ReportAnswer} {exit : List ℕ} → report_told a ≡ t → Reports n text out a exit
+  report_given : {t : Told} {a : Result Reported Refusal} {exit : List ℕ} → report_told a ≡ t → Reports n text out a exit
       → (report_told (report_answer n text out) ≡ t) × (report_buffer n text out ≡ exit)
   report_given e c = (rw (← c.says) e, sym c.leaves)
 

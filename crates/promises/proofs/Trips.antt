@@ -1,6 +1,5 @@
 -- Demand 2: the text and the table give each other back, by the definitions and by the calls.
 use mathlib.Core.Path.{◌≡◌, refl, sym, ap, ◌∙◌}
-use mathlib.Core.Option.{Option, none, some}
 use Prim.Native.Nat.{ℕ, ◌*◌, ◌<◌}
 use native.Mathlib.Omega.{arith}
 use native.Mathlib.Decide.{dec_lt}
@@ -12,35 +11,35 @@ use Rattle.rules.specs.Text.{took, read_set, write_set}
 use Rattle.rules.specs.Calls.{Makes}
 use Rattle.rules.specs.declared.Refusal.{Refusal}
 use Rattle.rules.specs.declared.Refusal.TheVariants.{TooShort}
-use Rattle.rules.specs.declared.WriteAnswer.TheVariants.{Written, Refused}
 use Rattle.rules.proofs.SetTrips.{write_then_read, set_back}
 use Rattle.rules.proofs.Calls.{read_set_law, write_refused, write_short, write_made}
 use Rattle.rules.proofs.Reading.{took_set}
 use Rattle.promises.specs.Demands.{RoundTrips}
+use Rattle.std.specs.Prelude.{Option, Some, None, Result, Ok, Err}
 
 -- what was written is made of a table that is not refused
 pub record Wrote (make : List ℕ → List ℕ) (table : List ℕ) (n : ℕ) (exit : List ℕ) : Type 0 where
-  pub fine : table_refusal table ≡ none
+  pub fine : table_refusal table ≡ None
   pub made : take n exit ≡ make table
 
-pub wrote : (make : List ℕ → List ℕ) (table out exit : List ℕ) (n : ℕ) → Makes make table out (Written n) exit → Wrote make table n exit
+pub wrote : (make : List ℕ → List ℕ) (table out exit : List ℕ) (n : ℕ) → Makes make table out (Ok n) exit → Wrote make table n exit
 wrote make table out exit n w = go (table_refusal table) refl
   where
-    by_room : table_refusal table ≡ none → Dec (length out < length (make table)) → Wrote make table n exit
+    by_room : table_refusal table ≡ None → Dec (length out < length (make table)) → Wrote make table n exit
     by_room e (yes h) =
-        let f : Written n ≡ Refused TooShort = w.says ∙ sym (write_short {make = make} table out e h).says in
+        let f : ◌≡◌ {A = Result ℕ Refusal} (Ok n) (Err TooShort) = w.says ∙ sym (write_short {make = make} table out e h).says in
         let z : ◌≡◌ {A = ℕ} 0 1 = cc in
         absurd (omega arith)
     by_room e (no h) =
         let x = write_made {make = make} table out e (omega arith) in
-        let f : Written n ≡ Written (length (make table)) = w.says ∙ sym x.says in
+        let f : ◌≡◌ {A = Result ℕ Refusal} (Ok n) (Ok (length (make table))) = w.says ∙ sym x.says in
         let m : length (make table) ≡ n = cc in
         record { fine = e; made = ap (take n) (w.leaves ∙ sym x.leaves) ∙ take_at (make table) (drop (length (make table)) out) n m }
 
     go : (o : Option Refusal) → table_refusal table ≡ o → Wrote make table n exit
-    go none e = by_room e (dec_lt (length out) (length (make table)))
-    go (some r) e =
-        let f : Written n ≡ Refused r = w.says ∙ sym (write_refused {make = make} table out r e).says in
+    go None e = by_room e (dec_lt (length out) (length (make table)))
+    go (Some r) e =
+        let f : ◌≡◌ {A = Result ℕ Refusal} (Ok n) (Err r) = w.says ∙ sym (write_refused {make = make} table out r e).says in
         let z : ◌≡◌ {A = ℕ} 0 1 = cc in
         absurd (omega arith)
 

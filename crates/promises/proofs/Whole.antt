@@ -27,7 +27,7 @@ unfolding rows_for
 one_row done d j m = absurd (Memᴰ.not-nil m)
 one_row (step {j = i} {ws = ws} s e P k r) d j m =
     taken_cases k j m _
-    (λ q. let none : rows_for i ws ≡ 0 = no_row i r (taken_differ k d) in let none_of_j : rows_for j ws ≡ 0 = ap (λ x. rows_for x ws) q ∙ none in rw (q, same_self i) (omega arith))
+    (λ q. let None : rows_for i ws ≡ 0 = no_row i r (taken_differ k d) in let none_of_j : rows_for j ws ≡ 0 = ap (λ x. rows_for x ws) q ∙ None in rw (q, same_self i) (omega arith))
     (λ n. let ih : rows_for j ws ≡ 1 = one_row r (taken_distinct k d) j n in rw (differ_back i j (taken_differ k d j n)) (omega arith))
 
 pub legal_whole : (ts : List Task) → AllSound ts → (js : List Job) → Legal ts js → Whole js

@@ -1,7 +1,6 @@
 -- The three demands on one page, over the definitions and the calls' contracts of rules/specs.
 use Rattle.std.specs.Prelude.{◌≡◌, ◌↔◌, ◌⊎◌, ℕ, suc, ◌+◌, ◌-◌, ◌*◌, ◌/◌, ◌%◌, ◌≤◌, ◌<◌, true, false, length, take, drop, replicate, if◌then◌else◌}
 use mathlib.Core.List.{List, [], ◌∷◌, ◌++◌, Memᴰ}
-use Rattle.std.proofs.Math.Option.{none, some}
 use Rattle.rules.specs.declared.Task.{Task}
 use Rattle.rules.specs.Task.{tasks_of, task_at, executions, AllSound}
 use Rattle.rules.specs.Refusals.{number_of}
@@ -20,15 +19,11 @@ use Rattle.rules.specs.Report.{report_answer, report_buffer, output}
 use Rattle.rules.specs.Calls.{Reads, Writes, ReadsSheet, WritesSheet, Schedules, Shows, Reports}
 use Rattle.rules.specs.Generator.{set_drawn, words_drawn, state_after_set, state_after_sets, generated, Draws, draw_answer, draw_state, draw_table, DrawsSet}
 use Rattle.rules.specs.declared.Refusal.{Refusal}
-use Rattle.rules.specs.declared.Blocker.{Blocker}
 use Rattle.rules.specs.declared.Verdict.{Verdict}
-use Rattle.rules.specs.declared.ReadAnswer.{ReadAnswer}
-use Rattle.rules.specs.declared.WriteAnswer.{WriteAnswer}
-use Rattle.rules.specs.declared.ScheduleAnswer.{ScheduleAnswer}
-use Rattle.rules.specs.declared.VerdictAnswer.{VerdictAnswer}
-use Rattle.rules.specs.declared.PatternAnswer.{PatternAnswer}
-use Rattle.rules.specs.declared.ReportAnswer.{ReportAnswer}
-use Rattle.promises.specs.Tables.{Least, None, ReaderTells, WriterTells, ScheduleTells, JudgeTells, PatternTells, FirstTells, ReportTells, Run, SetTells, SheetTells}
+use Rattle.promises.specs.Tables.{Least, Nowhere, ReaderTells, WriterTells, ScheduleTells, JudgeTells, PatternTells, FirstTells, ReportTells, Run, SetTells, SheetTells}
+use Rattle.std.specs.Prelude.{Option, Some, Result, Ok, Err, None}
+use Rattle.rules.specs.declared.Timing.{Timing}
+use Rattle.rules.specs.declared.Reported.{Reported}
 
 -- 1. ANY INPUT ENDS WELL. Any table, any text, any lent buffer gets an answer or a numbered refusal. A refusal changes no lent buffer.
 
@@ -40,29 +35,29 @@ pub record One (X : Type 0) (Contract : X → Type 0) : Type 0 where
 
 -- for every input each call has exactly one outcome: its answer, what it hands back, and each lent buffer and state at exit
 pub record EndsWell : Type 0 where
-  pub reading : (text table : List ℕ) → One (ReadAnswer × List ℕ × List ℕ) (λ o. Reads text table o.0 o.1 o.2)
-  pub writing : (table out : List ℕ) → One (WriteAnswer × List ℕ) (λ o. Writes table out o.0 o.1)
-  pub scheduling : (table : List ℕ) (z : ℕ) (out : List ℕ) → One (ScheduleAnswer × List ℕ) (λ o. Schedules table z out o.0 o.1)
-  pub judging : (table : List ℕ) → One VerdictAnswer (λ o. o ≡ verdict_answer table)
-  pub showing : (table out : List ℕ) → One (PatternAnswer × List ℕ) (λ o. Shows table out o.0 o.1)
-  pub reporting : (number : ℕ) (text out : List ℕ) → One (ReportAnswer × List ℕ) (λ o. Reports number text out o.0 o.1)
+  pub reading : (text table : List ℕ) → One (Result ℕ Refusal × List ℕ × List ℕ) (λ o. Reads text table o.0 o.1 o.2)
+  pub writing : (table out : List ℕ) → One (Result ℕ Refusal × List ℕ) (λ o. Writes table out o.0 o.1)
+  pub scheduling : (table : List ℕ) (z : ℕ) (out : List ℕ) → One (Result Timing Refusal × List ℕ) (λ o. Schedules table z out o.0 o.1)
+  pub judging : (table : List ℕ) → One (Result Verdict Refusal) (λ o. o ≡ verdict_answer table)
+  pub showing : (table out : List ℕ) → One (Result ℕ Refusal × List ℕ) (λ o. Shows table out o.0 o.1)
+  pub reporting : (number : ℕ) (text out : List ℕ) → One (Result Reported Refusal × List ℕ) (λ o. Reports number text out o.0 o.1)
   pub checking : (text : List ℕ) → One ℕ (λ o. o ≡ check_number text)
   pub drawing : (s : ℕ) → One (ℕ × ℕ) (λ o. Draws s o.0 o.1)
-  pub drawing_set : (s number : ℕ) (table : List ℕ) → One (ReadAnswer × ℕ × List ℕ) (λ o. DrawsSet s number table o.0 o.1 o.2)
-  pub reading_sheet : (sheet table : List ℕ) → One (ReadAnswer × List ℕ) (λ o. ReadsSheet sheet table o.0 o.1)
-  pub writing_sheet : (table out : List ℕ) → One (WriteAnswer × List ℕ) (λ o. WritesSheet table out o.0 o.1)
+  pub drawing_set : (s number : ℕ) (table : List ℕ) → One (Result ℕ Refusal × ℕ × List ℕ) (λ o. DrawsSet s number table o.0 o.1 o.2)
+  pub reading_sheet : (sheet table : List ℕ) → One (Result ℕ Refusal × List ℕ) (λ o. ReadsSheet sheet table o.0 o.1)
+  pub writing_sheet : (table out : List ℕ) → One (Result ℕ Refusal × List ℕ) (λ o. WritesSheet table out o.0 o.1)
 
 -- a refusal has a number from 1 to 8 or from 13 to 15; each lent buffer and state at exit is what it was; the reader hands the whole text back
 pub record Untouched : Type 0 where
   pub numbered : (r : Refusal) → ((1 ≤ number_of r) × (number_of r ≤ 8)) ⊎ ((13 ≤ number_of r) × (number_of r ≤ 15))
-  pub reading : (text table rest exit : List ℕ) (r : Refusal) → Reads text table (ReadAnswer.Refused r) rest exit → (rest ≡ text) × (exit ≡ table)
-  pub writing : (table out exit : List ℕ) (r : Refusal) → Writes table out (WriteAnswer.Refused r) exit → exit ≡ out
-  pub scheduling : (table out exit : List ℕ) (z : ℕ) (r : Refusal) → Schedules table z out (ScheduleAnswer.Refused r) exit → exit ≡ out
-  pub showing : (table out exit : List ℕ) (r : Refusal) → Shows table out (PatternAnswer.Refused r) exit → exit ≡ out
-  pub reporting : (number : ℕ) (text out exit : List ℕ) (r : Refusal) → Reports number text out (ReportAnswer.Refused r) exit → exit ≡ out
-  pub drawing : (s number after : ℕ) (table exit : List ℕ) (r : Refusal) → DrawsSet s number table (ReadAnswer.Refused r) after exit → (after ≡ s) × (exit ≡ table)
-  pub reading_sheet : (sheet table exit : List ℕ) (r : Refusal) → ReadsSheet sheet table (ReadAnswer.Refused r) exit → exit ≡ table
-  pub writing_sheet : (table out exit : List ℕ) (r : Refusal) → WritesSheet table out (WriteAnswer.Refused r) exit → exit ≡ out
+  pub reading : (text table rest exit : List ℕ) (r : Refusal) → Reads text table (Err r) rest exit → (rest ≡ text) × (exit ≡ table)
+  pub writing : (table out exit : List ℕ) (r : Refusal) → Writes table out (Err r) exit → exit ≡ out
+  pub scheduling : (table out exit : List ℕ) (z : ℕ) (r : Refusal) → Schedules table z out (Err r) exit → exit ≡ out
+  pub showing : (table out exit : List ℕ) (r : Refusal) → Shows table out (Err r) exit → exit ≡ out
+  pub reporting : (number : ℕ) (text out exit : List ℕ) (r : Refusal) → Reports number text out (Err r) exit → exit ≡ out
+  pub drawing : (s number after : ℕ) (table exit : List ℕ) (r : Refusal) → DrawsSet s number table (Err r) after exit → (after ≡ s) × (exit ≡ table)
+  pub reading_sheet : (sheet table exit : List ℕ) (r : Refusal) → ReadsSheet sheet table (Err r) exit → exit ≡ table
+  pub writing_sheet : (table out exit : List ℕ) (r : Refusal) → WritesSheet table out (Err r) exit → exit ≡ out
 
 -- 2. THE NUMBERS ARE THE PAPER'S. Rows, late job, verdict and text each equal a definition.
 
@@ -94,8 +89,8 @@ pub record PaperNumbers : Type 0 where
 -- and no late job has a lesser deadline, or an equal one and a lower task
 pub record Dispatcher : Type 0 where
   pub rules : (ts : List Task) → AllSound ts → (js : List Job) → Legal ts js → (ws : List Row) → Obeys 0 js ws ↔ (ws ≡ dispatch js)
-  pub none_late : (ws : List Row) → (late_job ws ≡ none) ↔ ((w : Row) → Memᴰ w ws → late w ≡ false)
-  pub late_job_shown : (ws : List Row) (j : Job) → late_job ws ≡ some j → (w : Row) × NamedLate ws w × (w.job ≡ j)
+  pub none_late : (ws : List Row) → (late_job ws ≡ None) ↔ ((w : Row) → Memᴰ w ws → late w ≡ false)
+  pub late_job_shown : (ws : List Row) (j : Job) → late_job ws ≡ Some j → (w : Row) × NamedLate ws w × (w.job ≡ j)
 
 -- the jobs: in the concrete schedule those of each task from R on that are released before Z; in the named pattern of L without a blocker those
 -- from 0 on that are due by L; with one, its own at 0, and those of the other tasks from 1 on that are due by L + 1
@@ -120,13 +115,13 @@ Bytes =
 -- writing then reading gives the numbers back, whatever follows; reading an in-range set then writing gives the bytes back: by the definitions,
 -- and of whatever meets the calls' contracts
 pub record RoundTrips : Type 0 where
-  pub write_then_read : (table after : List ℕ) → table_refusal table ≡ none → read_set (write_set table ++ after) ≡ took table after
-  pub read_then_write : (text words after : List ℕ) → read_set text ≡ took words after → table_refusal words ≡ none → write_set words ++ after ≡ text
-  pub written_is_read : (table out text : List ℕ) (n : ℕ) → Writes table out (WriteAnswer.Written n) text
-      → (after room : List ℕ) → length table ≤ length room → (answer : ReadAnswer) (rest exit : List ℕ) → Reads (take n text ++ after) room answer rest exit
-      → (answer ≡ ReadAnswer.Set (length table / 4)) × (rest ≡ after) × (exit ≡ table ++ drop (length table) room)
-  pub read_is_written : (text table rest words : List ℕ) (n : ℕ) → Reads text table (ReadAnswer.Set n) rest words
-      → (out exit : List ℕ) (k : ℕ) → Writes (take (4 * n) words) out (WriteAnswer.Written k) exit → take k exit ++ rest ≡ text
+  pub write_then_read : (table after : List ℕ) → table_refusal table ≡ None → read_set (write_set table ++ after) ≡ took table after
+  pub read_then_write : (text words after : List ℕ) → read_set text ≡ took words after → table_refusal words ≡ None → write_set words ++ after ≡ text
+  pub written_is_read : (table out text : List ℕ) (n : ℕ) → Writes table out (Ok n) text
+      → (after room : List ℕ) → length table ≤ length room → (answer : Result ℕ Refusal) (rest exit : List ℕ) → Reads (take n text ++ after) room answer rest exit
+      → (answer ≡ Ok (length table / 4)) × (rest ≡ after) × (exit ≡ table ++ drop (length table) room)
+  pub read_is_written : (text table rest words : List ℕ) (n : ℕ) → Reads text table (Ok n) rest words
+      → (out exit : List ℕ) (k : ℕ) → Writes (take (4 * n) words) out (Ok k) exit → take k exit ++ rest ≡ text
 
 -- 3. THE VERDICT IS TRUE OF EVERY ARRIVAL PATTERN. "Meets": no legal pattern, with run times from 1 to C, makes any job late.
 -- "Misses": the named pattern makes one late. "Too far" is given only on its condition.
@@ -156,19 +151,19 @@ pub record MakesLate (ts : List Task) (js : List Job) : Type 0 where
 -- when each verdict is due, with what it carries
 abbrev pub Condition : List Task → Verdict → Type 0
 Condition ts (Verdict.Misses L b over) = Least (λ K. fails K ts) L × (b ≡ blocker L ts) × (over ≡ total_due L ts + longest_wait L ts - L)
-Condition ts (Verdict.Meets σ) = None (λ K. fails K ts) × Least (λ t. closes t ts) σ
-Condition ts Verdict.TooFar = None (λ K. fails K ts) × None (λ t. closes t ts)
+Condition ts (Verdict.Meets σ) = Nowhere (λ K. fails K ts) × Least (λ t. closes t ts) σ
+Condition ts Verdict.TooFar = Nowhere (λ K. fails K ts) × Nowhere (λ t. closes t ts)
 
 -- what each verdict promises of the patterns
 abbrev pub Kept : List Task → Verdict → Type 0
 Kept ts (Verdict.Meets σ) = Least (λ t. closes t ts) σ × ((js : List Job) → Legal ts js → InTime js)
 Kept ts (Verdict.Misses L b over) = MakesLate ts (named L ts)
-Kept ts Verdict.TooFar = None (λ K. fails K ts) × None (λ t. closes t ts)
+Kept ts Verdict.TooFar = Nowhere (λ K. fails K ts) × Nowhere (λ t. closes t ts)
 
 -- the verdict call's answer, kept
-abbrev pub KeptBy : List ℕ → VerdictAnswer → Type 0
-KeptBy table (VerdictAnswer.Judged v) = Kept (tasks_of table) v
-KeptBy table (VerdictAnswer.Refused r) = Unit {0}
+abbrev pub KeptBy : List ℕ → Result Verdict Refusal → Type 0
+KeptBy table (Ok v) = Kept (tasks_of table) v
+KeptBy table (Err r) = Unit {0}
 
 -- each verdict is given exactly on its condition, so that one is always due and never two; and it is kept,
 -- for every table and for tasks with C, D and T of 1 or more without an upper bound
@@ -176,7 +171,7 @@ pub record TrueOfEveryPattern : Type 0 where
   pub exactly : (ts : List Task) (v : Verdict) → (verdict ts ≡ v) ↔ Condition ts v
   pub one_due : (ts : List Task) → One Verdict (Condition ts)
   pub kept : (ts : List Task) → AllSound ts → Kept ts (verdict ts)
-  pub kept_table : (table : List ℕ) → table_refusal table ≡ none → Kept (tasks_of table) (verdict (tasks_of table))
+  pub kept_table : (table : List ℕ) → table_refusal table ≡ None → Kept (tasks_of table) (verdict (tasks_of table))
   pub kept_by : (table : List ℕ) → KeptBy table (verdict_answer table)
 
 -- THE C CALL in one sentence. Of a text whose first set was read and is in range, a statement about its tasks
@@ -187,7 +182,7 @@ WasRead text P = (ws : List ℕ) × (after : List ℕ) × (read_set text ≡ too
 pub data CallSays (text : List ℕ) : ℕ → Type 0 where
   meets : WasRead text (λ ts. (js : List Job) → Legal ts js → InTime js) → CallSays text 100
   misses : WasRead text (λ ts. (L : ℕ) × Least (λ K. fails K ts) L × MakesLate ts (named L ts)) → CallSays text 101
-  too_far : WasRead text (λ ts. None (λ K. fails K ts) × None (λ t. closes t ts)) → CallSays text 102
+  too_far : WasRead text (λ ts. Nowhere (λ K. fails K ts) × Nowhere (λ t. closes t ts)) → CallSays text 102
   bad_word : {ws after : List ℕ} {i : ℕ} → read_set text ≡ took ws after → FirstOut ws i → CallSays text 4
   bad_line : {l : ℕ} → read_set text ≡ stop l → CallSays text 7
 
@@ -200,16 +195,16 @@ pub record CallForC : Type 0 where
 -- Due(L) + Wait(L) fell by the excess or more. The excess is below the sum of the executions, and just below it where every deadline is 1; so for a table
 -- it is at most 4,194,239, as 64 tasks of (65535,1,1) have it. The number of the C call is 101 whatever it is
 pub record ByHowMuch : Type 0 where
-  pub one_or_more : (ts : List Task) (L : ℕ) (b : Blocker) (over : ℕ) → verdict ts ≡ Verdict.Misses L b over → 1 ≤ over
-  pub passes_if : (ts : List Task) (L : ℕ) (b : Blocker) (over : ℕ) → verdict ts ≡ Verdict.Misses L b over
+  pub one_or_more : (ts : List Task) (L : ℕ) (b : Option ℕ) (over : ℕ) → verdict ts ≡ Verdict.Misses L b over → 1 ≤ over
+  pub passes_if : (ts : List Task) (L : ℕ) (b : Option ℕ) (over : ℕ) → verdict ts ≡ Verdict.Misses L b over
       → (changed : List Task) → (fails L changed ≡ false) ↔ ((total_due L changed ≡ 0) ⊎ (total_due L changed + longest_wait L changed + over ≤ total_due L ts + longest_wait L ts))
-  pub below : (ts : List Task) → AllSound ts → (L : ℕ) (b : Blocker) (over : ℕ) → verdict ts ≡ Verdict.Misses L b over → over < executions ts
+  pub below : (ts : List Task) → AllSound ts → (L : ℕ) (b : Option ℕ) (over : ℕ) → verdict ts ≡ Verdict.Misses L b over → over < executions ts
   pub just_below : (ts : List Task) → ((τ : Task) → Memᴰ τ ts → τ.D ≡ 1) → 2 ≤ executions ts
-      → verdict ts ≡ Verdict.Misses 1 Blocker.Nobody (executions ts - 1)
-  pub of_a_call : (table : List ℕ) (v : Verdict) → verdict_answer table ≡ VerdictAnswer.Judged v → verdict (tasks_of table) ≡ v
-  pub at_most : (table : List ℕ) (L : ℕ) (b : Blocker) (over : ℕ) → verdict_answer table ≡ VerdictAnswer.Judged (Verdict.Misses L b over) → over ≤ 4194239
-  pub reached : verdict_answer (set (replicate 64 (65535, 1, 1))) ≡ VerdictAnswer.Judged (Verdict.Misses 1 Blocker.Nobody 4194239)
-  pub same_number : (L : ℕ) (b : Blocker) (over : ℕ) → number_told (judged_told (Verdict.Misses L b over)) ≡ 101
+      → verdict ts ≡ Verdict.Misses 1 None (executions ts - 1)
+  pub of_a_call : (table : List ℕ) (v : Verdict) → verdict_answer table ≡ Ok v → verdict (tasks_of table) ≡ v
+  pub at_most : (table : List ℕ) (L : ℕ) (b : Option ℕ) (over : ℕ) → verdict_answer table ≡ Ok (Verdict.Misses L b over) → over ≤ 4194239
+  pub reached : verdict_answer (set (replicate 64 (65535, 1, 1))) ≡ Ok (Verdict.Misses 1 None 4194239)
+  pub same_number : (L : ℕ) (b : Option ℕ) (over : ℕ) → number_told (judged_told (Verdict.Misses L b over)) ≡ 101
 
 -- THE GENERATOR. What the long kernel does, task k of the set and its last: its C is at most every other D and equal to one of them, and its D is
 -- above all of theirs. So at the length L of its C a tick is due, and all but one may be waited for: L fails, except exactly where just one tick is due
@@ -227,9 +222,9 @@ pub record HoldsTheTile (ts : List Task) (k : ℕ) : Type 0 where
 -- 65,535 exactly where the number is a multiple of 4 and the set has two tasks or more, and then it holds the tile; and the texts of sets are what the
 -- check reads, set after set
 pub record SetsDrawn : Type 0 where
-  pub not_refused : (s number : ℕ) → (v : Verdict) × (verdict_answer (words_drawn number s) ≡ VerdictAnswer.Judged v)
-  pub drawn_is_judged : (s number n after : ℕ) (table exit : List ℕ) → DrawsSet s number table (ReadAnswer.Set n) after exit
-      → (v : Verdict) × (verdict_answer (take (4 * n) exit) ≡ VerdictAnswer.Judged v)
+  pub not_refused : (s number : ℕ) → (v : Verdict) × (verdict_answer (words_drawn number s) ≡ Ok v)
+  pub drawn_is_judged : (s number n after : ℕ) (table exit : List ℕ) → DrawsSet s number table (Ok n) after exit
+      → (v : Verdict) × (verdict_answer (take (4 * n) exit) ≡ Ok v)
   pub long_where : (s number k : ℕ) → length (set_drawn number s) ≡ suc k
       → ((task_at (set_drawn number s) k).D ≡ 65535) ↔ ((number % 4 ≡ 0) × (2 ≤ length (set_drawn number s)))
   pub long_kernel : (s number k : ℕ) → length (set_drawn number s) ≡ suc k → (task_at (set_drawn number s) k).D ≡ 65535 → HoldsTheTile (set_drawn number s) k
@@ -246,9 +241,9 @@ SheetBytes =
 -- a sheet that is written from a valid table reads back to it, whatever table it is read into; and the two formats agree: the text written from what it
 -- reads to is the text of the table. By the definitions, and of whatever meets the calls' contracts
 pub record SheetTrips : Type 0 where
-  pub sheet_then_table : (table : List ℕ) → table_refusal table ≡ none → read_sheet (write_sheet table) ≡ tasks table
-  pub written_is_read : (table out sheet : List ℕ) (n : ℕ) → WritesSheet table out (WriteAnswer.Written n) sheet
-      → (room : List ℕ) → length table ≤ length room → (answer : ReadAnswer) (exit : List ℕ) → ReadsSheet (take n sheet) room answer exit
-      → (answer ≡ ReadAnswer.Set (length table / 4)) × (exit ≡ table ++ drop (length table) room)
-  pub formats_agree : (table out sheet : List ℕ) (n : ℕ) → WritesSheet table out (WriteAnswer.Written n) sheet
-      → (room words : List ℕ) (k : ℕ) → ReadsSheet (take n sheet) room (ReadAnswer.Set k) words → write_set (take (4 * k) words) ≡ write_set table
+  pub sheet_then_table : (table : List ℕ) → table_refusal table ≡ None → read_sheet (write_sheet table) ≡ tasks table
+  pub written_is_read : (table out sheet : List ℕ) (n : ℕ) → WritesSheet table out (Ok n) sheet
+      → (room : List ℕ) → length table ≤ length room → (answer : Result ℕ Refusal) (exit : List ℕ) → ReadsSheet (take n sheet) room answer exit
+      → (answer ≡ Ok (length table / 4)) × (exit ≡ table ++ drop (length table) room)
+  pub formats_agree : (table out sheet : List ℕ) (n : ℕ) → WritesSheet table out (Ok n) sheet
+      → (room words : List ℕ) (k : ℕ) → ReadsSheet (take n sheet) room (Ok k) words → write_set (take (4 * k) words) ≡ write_set table

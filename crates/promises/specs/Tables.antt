@@ -21,8 +21,8 @@ abbrev pub Least : (ℕ → Bool) → ℕ → Type 0
 Least p x = (1 ≤ x) × (x ≤ 100000) × (p x ≡ true) × ((y : ℕ) → 1 ≤ y → y < x → p y ≡ false)
 
 -- no number from 1 to H passes
-abbrev pub None : (ℕ → Bool) → Type 0
-None p = (y : ℕ) → 1 ≤ y → y ≤ 100000 → p y ≡ false
+abbrev pub Nowhere : (ℕ → Bool) → Type 0
+Nowhere p = (y : ℕ) → 1 ≤ y → y ≤ 100000 → p y ≡ false
 
 -- A TABLE: 1 it has no word; 2 its length isn't a multiple of 4; 3 its length is above 256; 4 a word is out of its range, with the first such index
 pub data TableTells (w : List ℕ) : Told → Type 0 where
@@ -66,8 +66,8 @@ pub data VerdictTells (ts : List Task) : Told → Type 0 where
   misses : {L b : ℕ} → Least (λ K. fails K ts) L → 0 < longest_wait L ts → Blocks L ts b
       → VerdictTells ts (101 with (L ∷ b ∷ (total_due L ts + longest_wait L ts - L) ∷ []))
   misses_alone : {L : ℕ} → Least (λ K. fails K ts) L → longest_wait L ts ≡ 0 → VerdictTells ts (101 with (L ∷ (total_due L ts + longest_wait L ts - L) ∷ []))
-  meets : {σ : ℕ} → None (λ K. fails K ts) → Least (λ t. closes t ts) σ → VerdictTells ts (100 with (σ ∷ []))
-  too_far : None (λ K. fails K ts) → None (λ t. closes t ts) → VerdictTells ts (102 with [])
+  meets : {σ : ℕ} → Nowhere (λ K. fails K ts) → Least (λ t. closes t ts) σ → VerdictTells ts (100 with (σ ∷ []))
+  too_far : Nowhere (λ K. fails K ts) → Nowhere (λ t. closes t ts) → VerdictTells ts (102 with [])
 
 -- the verdict call: 1 to 4; else the verdict
 pub data JudgeTells (table : List ℕ) : Told → Type 0 where
@@ -78,7 +78,7 @@ pub data JudgeTells (table : List ℕ) : Told → Type 0 where
 -- the rows at the start of the buffer
 pub data PatternTells (table out : List ℕ) : Told → List ℕ → Type 0 where
   refused : {t : Told} → TableTells table t → PatternTells table out t out
-  eight : Fine table → None (λ K. fails K (tasks_of table)) → PatternTells table out (8 with []) out
+  eight : Fine table → Nowhere (λ K. fails K (tasks_of table)) → PatternTells table out (8 with []) out
   six : {L : ℕ} {rows : List Row} → Fine table → Least (λ K. fails K (tasks_of table)) L → Obeys 0 (named L (tasks_of table)) rows
       → length out < 4 * length rows → PatternTells table out (6 with []) out
   shown : {L : ℕ} {rows : List Row} → Fine table → Least (λ K. fails K (tasks_of table)) L → Obeys 0 (named L (tasks_of table)) rows

@@ -4,11 +4,11 @@ use Rattle.rules.specs.Told.{number_told, value_told, read_told}
 use Rattle.rules.specs.Answers.{read_answer}
 use Rattle.rules.specs.Calls.{Reads}
 use Rattle.rules.specs.declared.Refusal.TheVariants.{TooShort, BadLine}
-use Rattle.rules.specs.declared.ReadAnswer.{ReadAnswer}
-use Rattle.rules.specs.declared.ReadAnswer.TheVariants.{Set, Refused}
+use Rattle.std.specs.Prelude.{Result}
+use Rattle.rules.specs.declared.Refusal.{Refusal}
 
 -- the answer that a number and a value stand for; the reader refuses by 6 and 7 alone
-unfoldable pub read_answer_of : ℕ → ℕ → ReadAnswer
+unfoldable pub read_answer_of : ℕ → ℕ → Result ℕ Refusal
 read_answer_of code number = if eqb code 0 then Set number else (if eqb code 6 then Refused TooShort else Refused (BadLine number))
 
 -- the reader that returns the rest: the two numbers are those that the answer is told by, and stand for it

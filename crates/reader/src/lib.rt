@@ -6,16 +6,16 @@ ghost use Rattle.rules.specs.Refusals.{carried_values};
 ghost use Rattle.rules.specs.Told.{number_told, value_told, read_told};
 ghost use Rattle.reader.specs.Reader.{read_answer_of, Returns};
 
-use rules::{Carried, ReadAnswer, Refusal};
+use rules::{Carried, Refusal};
 use scan::read_set;
 
 // The first number of an answer: 0, or the refusal's.
-fn code_of(answer: ReadAnswer) -> u32
+fn code_of(answer: Result<u32, Refusal>) -> u32
     ensures { result ≡ number_told (read_told answer) }
 {
     match answer {
-        ReadAnswer::Set(_) => 0,
-        ReadAnswer::Refused(r) => numbers::refusal_number(r),
+        Ok(_) => 0,
+        Err(r) => numbers::refusal_number(r),
     }
 }
 
@@ -24,7 +24,7 @@ fn carried_value(c: Carried) -> u32
     ensures { result ≡ get_or (carried_values c) 0 0 }
 {
     match c {
-        Carried::Nothing => 0,
+        None => 0,
         Carried::Word(i) => i,
         Carried::Line(l) => l,
         Carried::Record(l) => l,
@@ -32,12 +32,12 @@ fn carried_value(c: Carried) -> u32
 }
 
 // The second: the task count, or what the refusal carries.
-fn number_in(answer: ReadAnswer) -> u32
+fn number_in(answer: Result<u32, Refusal>) -> u32
     ensures { result ≡ value_told (read_told answer) }
 {
     match answer {
-        ReadAnswer::Set(n) => n,
-        ReadAnswer::Refused(r) => {
+        Ok(n) => n,
+        Err(r) => {
             let carried = numbers::refusal_carries(r);
             carried_value(carried)
         }
@@ -46,16 +46,16 @@ fn number_in(answer: ReadAnswer) -> u32
 
 // The answer that the two numbers of a reader stand for.
 #[tactic(auto, unfolding(crate::specs::Reader::read_answer_of))]
-pub fn read_answer(code: u32, number: u32) -> ReadAnswer
+pub fn read_answer(code: u32, number: u32) -> Result<u32, Refusal>
     ensures { result ≡ read_answer_of code number }
 {
     if code == 0 {
-        return ReadAnswer::Set(number);
+        return Ok(number);
     }
     if code == 6 {
-        return ReadAnswer::Refused(Refusal::TooShort);
+        return Err(Refusal::TooShort);
     }
-    ReadAnswer::Refused(Refusal::BadLine(number))
+    Err(Refusal::BadLine(number))
 }
 
 // THE READER. The first set of a text goes to the start of table; the result is the part of the text after it.

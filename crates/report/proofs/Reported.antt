@@ -8,16 +8,18 @@ use Rattle.rules.specs.Text.{bytes, digits, line}
 use Rattle.rules.specs.Report.{answer_lines, set_lines}
 use Rattle.rules.specs.Calls.{Reports}
 use Rattle.rules.specs.declared.Refusal.TheVariants.{TooShort}
-use Rattle.rules.specs.declared.VerdictAnswer.{VerdictAnswer}
-use Rattle.rules.specs.declared.ReportAnswer.TheVariants.{Reported, Refused}
 use Rattle.rules.proofs.Calls.{report_short, report_lines}
 use Rattle.rules.proofs.Printed.{lines_are}
 use Rattle.judged.specs.First.{Judges}
 use Rattle.judged.specs.declared.First.{First}
+use Rattle.std.specs.Prelude.{Result}
+use Rattle.rules.specs.declared.Refusal.{Refusal}
+use Rattle.rules.specs.declared.Verdict.{Verdict}
+use Rattle.rules.specs.declared.Reported.{Reported}
 
 module _ (n : ℕ) (text out : List ℕ) (first : First) (judged : Judges text first) where
   are_the_lines : line (bytes "set=") (digits n) ++ answer_lines first.answer ≡ set_lines n text
-  are_the_lines = ap (λ (a : VerdictAnswer). line (bytes "set=") (digits n) ++ answer_lines a) judged.says ∙ sym (lines_are n text)
+  are_the_lines = ap (λ (a : Result Verdict Refusal). line (bytes "set=") (digits n) ++ answer_lines a) judged.says ∙ sym (lines_are n text)
 
   -- there is no room for them
   pub short : length out < length (line (bytes "set=") (digits n) ++ answer_lines first.answer) → Reports n text out (Refused TooShort) out

@@ -4,7 +4,6 @@ use mathlib.Core.Path.{◌≡◌, refl, sym, ap, ◌∙◌}
 use Prim.Native.Nat.{ℕ, ◌≤◌, ◌<◌}
 use mathlib.Core.Bool.{Bool, true, false}
 use mathlib.Core.List.{List, [], ◌∷◌, ◌++◌}
-use mathlib.Core.Option.{Option, none, some}
 use borrow.Author.Tests.{lt-ltb, le-ltb}
 use Rattle.rules.specs.Dispatch.{Job, Row, finish, before, late_job}
 use Rattle.rules.specs.Answers.{timing}
@@ -14,6 +13,7 @@ use Rattle.rules.proofs.LateJob.{late_one, late_not, late_append}
 use Rattle.row.specs.declared.Lateness.{Lateness}
 use Rattle.row.specs.declared.Lateness.TheVariants.{OnTime, Late}
 use Rattle.row.specs.Lateness.{lateness, noting, answered}
+use Rattle.std.specs.Prelude.{Option, Some, None}
 
 -- a row that is on time
 pub on_time : (l : Lateness) (k q d f : ℕ) → f ≤ d → l ≡ noting l k q d f
@@ -21,18 +21,18 @@ on_time OnTime k q d f h = rw (le-ltb d f h)
 on_time (Late i p e) k q d f h = rw (le-ltb d f h)
 
 -- a late one, where one is held: the job that goes before is held (the one place that opens the order of the rules: the code makes that test)
-of_two : (i j : Job) (f : ℕ) → j.deadline < f → noting (lateness (some i)) j.task j.number j.deadline f ≡ (if before j i then lateness (some j) else lateness (some i))
+of_two : (i j : Job) (f : ℕ) → j.deadline < f → noting (lateness (Some i)) j.task j.number j.deadline f ≡ (if before j i then lateness (Some j) else lateness (Some i))
 unfolding before
 of_two i j f h = rw (lt-ltb j.deadline f h)
 
 -- one row more is one row more of the rules' late job
 module _ (w : Row) where
   more_late : w.job.deadline < finish w → (o : Option Job)
-      → noting (lateness o) w.job.task w.job.number w.job.deadline (finish w) ≡ lateness (earlier o (some w.job))
-  more_late h none = rw (lt-ltb w.job.deadline (finish w) h)
-  more_late h (some i) = of_two i w.job (finish w) h ∙ go (before w.job i) refl
+      → noting (lateness o) w.job.task w.job.number w.job.deadline (finish w) ≡ lateness (earlier o (Some w.job))
+  more_late h None = rw (lt-ltb w.job.deadline (finish w) h)
+  more_late h (Some i) = of_two i w.job (finish w) h ∙ go (before w.job i) refl
     where
-      go : (x : Bool) → before w.job i ≡ x → (if x then lateness (some w.job) else lateness (some i)) ≡ lateness (earlier (some i) (some w.job))
+      go : (x : Bool) → before w.job i ≡ x → (if x then lateness (Some w.job) else lateness (Some i)) ≡ lateness (earlier (Some i) (Some w.job))
       go true e = ap lateness (sym (sooner_yes w.job i e))
       go false e = ap lateness (sym (sooner_no w.job i e))
 
@@ -49,5 +49,5 @@ module _ (w : Row) where
 
 -- the answer is the rules' timing
 pub answered_is : (n : ℕ) (o : Option Job) → answered n (lateness o) ≡ timing n o
-answered_is n none = refl
-answered_is n (some j) = refl
+answered_is n None = refl
+answered_is n (Some j) = refl

@@ -59,7 +59,7 @@ pub fn noted(held: Lateness, task: u64, number: u64, due: u64, f: u64) -> Latene
 }
 
 // The answer for n rows.
-pub fn answer(n: u64, late: Lateness) -> ScheduleAnswer
+pub fn answer(n: u64, late: Lateness) -> Result<Timing, Refusal>
     ensures { result ≡ answered n late }
 {
     match late {

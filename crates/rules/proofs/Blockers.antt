@@ -13,7 +13,7 @@ use borrow.Author.Tests.{ltb-true, ltb-false, lt-ltb, eqb-true, eqb-false}
 use Rattle.rules.specs.Task.{task_at}
 use Rattle.rules.specs.declared.Task.{Task}
 use Rattle.rules.specs.Demand.{wait, longest_wait, first_waiting, blocker, Blocks}
-use Rattle.rules.specs.declared.Blocker.{Blocker}
+use Rattle.std.specs.Prelude.{Some, None}
 
 -- Wait(L) is at least C − 1 of each task with D above L
 pub wait_most : (L : ℕ) (ts : List Task) (k : ℕ) → k < length ts → L < (task_at ts k).D → (task_at ts k).C - 1 ≤ longest_wait L ts
@@ -91,29 +91,29 @@ first_blocks L ts pos =
     })
 
 -- the blocker is a task exactly if Wait(L) is above 0: the lowest-numbered with the greatest C among those with D above L
-pub blocker_task : (L : ℕ) (ts : List Task) (b : ℕ) → (blocker L ts ≡ Blocker.Task b) ↔ ((0 < longest_wait L ts) × Blocks L ts b)
+pub blocker_task : (L : ℕ) (ts : List Task) (b : ℕ) → (blocker L ts ≡ Some b) ↔ ((0 < longest_wait L ts) × Blocks L ts b)
 unfolding blocker
 blocker_task L ts b = go (ltb 0 (longest_wait L ts)) refl
   where
     go : (t : Bool) → ltb 0 (longest_wait L ts) ≡ t
-        → ((if t then Blocker.Task (first_waiting (longest_wait L ts) L 0 ts) else Blocker.Nobody) ≡ Blocker.Task b) ↔ ((0 < longest_wait L ts) × Blocks L ts b)
+        → ((if t then Some (first_waiting (longest_wait L ts) L 0 ts) else None) ≡ Some b) ↔ ((0 < longest_wait L ts) × Blocks L ts b)
     go true e =
         let pos = ltb-true 0 (longest_wait L ts) e in
         let x = first_blocks L ts pos in (
           λ q. (pos, let h : first_waiting (longest_wait L ts) L 0 ts ≡ b = cc in subst (Blocks L ts) h x),
-          λ y. ap Blocker.Task (blocks_once L ts _ b x y.1),
+          λ y. ap Some (blocks_once L ts _ b x y.1),
         )
     go false e =
         let z = ltb-false 0 (longest_wait L ts) e in
         (λ q. let h : ◌≡◌ {A = ℕ} 0 1 = cc in absurd (omega arith), λ y. absurd (omega arith))
 
 -- it is nobody exactly if Wait(L) is 0
-pub blocker_nobody : (L : ℕ) (ts : List Task) → (blocker L ts ≡ Blocker.Nobody) ↔ (longest_wait L ts ≡ 0)
+pub blocker_nobody : (L : ℕ) (ts : List Task) → (blocker L ts ≡ None) ↔ (longest_wait L ts ≡ 0)
 unfolding blocker
 blocker_nobody L ts = go (ltb 0 (longest_wait L ts)) refl
   where
     go : (t : Bool) → ltb 0 (longest_wait L ts) ≡ t
-        → ((if t then Blocker.Task (first_waiting (longest_wait L ts) L 0 ts) else Blocker.Nobody) ≡ Blocker.Nobody) ↔ (longest_wait L ts ≡ 0)
+        → ((if t then Some (first_waiting (longest_wait L ts) L 0 ts) else None) ≡ None) ↔ (longest_wait L ts ≡ 0)
     go true e =
         let pos = ltb-true 0 (longest_wait L ts) e in
         (λ q. let h : ◌≡◌ {A = ℕ} 0 1 = cc in absurd (omega arith), λ y. absurd (omega arith))

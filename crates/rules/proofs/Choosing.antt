@@ -3,7 +3,6 @@ use mathlib.Core.Path.{◌≡◌, refl, sym, ap, ◌∙◌}
 use Prim.Native.Nat.{ℕ, zero, suc, ◌+◌, ◌≤◌, ◌<◌, min, max}
 use native.Mathlib.Omega.{arith}
 use mathlib.Core.List.{List, [], ◌∷◌, ◌++◌, Memᴰ}
-use mathlib.Core.Option.{Option, none, some}
 use lib.ListN.{length}
 use borrow.Author.Tests.{le-leb, lt-leb, ne_eqb}
 use Rattle.rules.specs.declared.Task.{Task}
@@ -13,6 +12,7 @@ use Rattle.rules.proofs.Booleans.{split}
 use Rattle.rules.proofs.Order.{sooner_none, sooner_absorbs}
 use Rattle.rules.proofs.Taken.{same_self, without_shorter}
 use Rattle.rules.proofs.Picked.{earliest_least, Pick, somebody, picks}
+use Rattle.std.specs.Prelude.{Option, Some, None}
 
 -- ONE JOB MORE
 -- it is released
@@ -26,23 +26,23 @@ unfolding pick
 pick_not s j js h = rw (lt-leb j.release s h)
 
 -- it is, and no other
-pub pick_one : (s : ℕ) (j : Job) (js : List Job) → j.release ≤ s → pick s js ≡ none → pick s (j ∷ js) ≡ some j
+pub pick_one : (s : ℕ) (j : Job) (js : List Job) → j.release ≤ s → pick s js ≡ None → pick s (j ∷ js) ≡ Some j
 pick_one s j js h e = pick_come s j js h ∙ ap (sooner j) e ∙ sooner_none j
 
 -- of no job none is picked
-pub pick_nobody : (s : ℕ) (js : List Job) → js ≡ [] → pick s js ≡ none
+pub pick_nobody : (s : ℕ) (js : List Job) → js ≡ [] → pick s js ≡ None
 unfolding pick
 pick_nobody s js e = rw e
 
 -- nor of jobs that are ready later
-pub not_yet : (t s : ℕ) (js : List Job) → t ≤ s → s < ready t js → pick s js ≡ none
+pub not_yet : (t s : ℕ) (js : List Job) → t ≤ s → s < ready t js → pick s js ≡ None
 unfolding ready
 not_yet t s [] h g = pick_nobody s [] refl
 not_yet t s (i ∷ js) h g = go (pick s (i ∷ js)) (picks s (i ∷ js))
   where
-    go : (o : Option Job) → Pick s (i ∷ js) o → o ≡ none
-    go none p = refl
-    go (some j) (somebody P) = absurd (omega (arith, P.come, earliest_least i js j P.mem))
+    go : (o : Option Job) → Pick s (i ∷ js) o → o ≡ None
+    go None p = refl
+    go (Some j) (somebody P) = absurd (omega (arith, P.come, earliest_least i js j P.mem))
 
 -- nothing starts before the tile is free
 pub ready_after : (t : ℕ) (js : List Job) → t ≤ ready t js
@@ -56,7 +56,7 @@ unfolding ready earliest
 ready_one t j js e = rw e
 
 -- among others, of which one is picked, then or with them
-pub ready_more : (t s : ℕ) (j i : Job) (js : List Job) → pick s js ≡ some i → ready t (j ∷ js) ≡ min (max t j.release) (ready t js)
+pub ready_more : (t s : ℕ) (j i : Job) (js : List Job) → pick s js ≡ Some i → ready t (j ∷ js) ≡ min (max t j.release) (ready t js)
 unfolding ready earliest pick
 ready_more t s j i [] e = let z : ◌≡◌ {A = ℕ} 0 1 = cc in absurd (omega arith)
 ready_more t s j i (k ∷ js) e = omega arith
@@ -126,21 +126,21 @@ without_head n q r k τ js = without_first (train_head q r k τ) (train_head q r
 
 -- ONE ROW
 -- the job that is picked takes the next row
-pub rows_step : (n t s : ℕ) (js : List Job) (j : Job) → ready t js ≡ s → pick s js ≡ some j
+pub rows_step : (n t s : ℕ) (js : List Job) (j : Job) → ready t js ≡ s → pick s js ≡ Some j
     → rows (suc n) t js ≡ record { job = j; start = s } ∷ rows n (s + j.run) (without j js)
 unfolding rows
 rows_step n t s js j er ep = ap (λ (x : ℕ). first x (pick x js)) er ∙ ap (first s) ep
   where
     first : ℕ → Option Job → List Row
-    first x o = elim o as (λ _. List Row) [ none ↦ [] | some i ↦ record { job = i; start = x } ∷ rows n (x + i.run) (without i js) ]
+    first x o = elim o as (λ _. List Row) [ None ↦ [] | Some i ↦ record { job = i; start = x } ∷ rows n (x + i.run) (without i js) ]
 
 -- and there is one job less
-pub one_less : (s : ℕ) (js : List Job) (j : Job) → pick s js ≡ some j → length js ≡ suc (length (without j js))
+pub one_less : (s : ℕ) (js : List Job) (j : Job) → pick s js ≡ Some j → length js ≡ suc (length (without j js))
 one_less s js j e = without_shorter js j (go (pick s js) (picks s js) e)
   where
-    go : (o : Option Job) → Pick s js o → o ≡ some j → Memᴰ j js
-    go none p q = let z : ◌≡◌ {A = ℕ} 0 1 = cc in absurd (omega arith)
-    go (some i) (somebody P) q = let h : i ≡ j = cc in rw (← h) P.mem
+    go : (o : Option Job) → Pick s js o → o ≡ Some j → Memᴰ j js
+    go None p q = let z : ◌≡◌ {A = ℕ} 0 1 = cc in absurd (omega arith)
+    go (Some i) (somebody P) q = let h : i ≡ j = cc in rw (← h) P.mem
 
 -- no job, no row
 pub rows_none : (t : ℕ) (js : List Job) → rows 0 t js ≡ []

@@ -1,7 +1,6 @@
 -- The dispatcher's rules leave one possibility: whatever rows obey them are those that it gives.
 use mathlib.Core.Path.{◌≡◌, refl, sym, ap, ◌∙◌}
 use mathlib.Core.Logic.{◌↔◌}
-use mathlib.Core.Option.{Option, none, some}
 use Prim.Native.Nat.{ℕ, zero, suc, ◌+◌, ◌≤◌, ◌<◌}
 use native.Mathlib.Omega.{arith}
 use native.Mathlib.Decide.{dec_lt}
@@ -22,6 +21,7 @@ use Rattle.rules.specs.Policy.{row_at, NotStarted, Obeys, NamedLate}
 use Rattle.rules.proofs.Runs.{distinct_run, run_jobs}
 use Rattle.rules.proofs.Dispatcher.{taken_gone, dispatch_obeys}
 use Rattle.rules.proofs.LateJob.{late_only}
+use Rattle.std.specs.Prelude.{Option, Some, None}
 
 -- two jobs of one task never have the same deadline
 abbrev pub NoTies : List Job → Type 0
@@ -108,15 +108,15 @@ obeys_rows (suc n) t (i ∷ js) (w ∷ ws) e d ties x =
 
     go : (o : Option Job) → Pick (ready t (i ∷ js)) (i ∷ js) o → w ∷ ws ≡ from w.job w.start
         → w ∷ ws ≡ (elim o as (λ _. List Row) [
-          | none ↦ []
-          | some j ↦ record { job = j; start = ready t (i ∷ js) } ∷ rows n (ready t (i ∷ js) + j.run) (without j (i ∷ js))
+          | None ↦ []
+          | Some j ↦ record { job = j; start = ready t (i ∷ js) } ∷ rows n (ready t (i ∷ js) + j.run) (without j (i ∷ js))
         ])
-    go none (nobody f) ih =
+    go None (nobody f) ih =
         let a = f w.job mem in
         let b = x.not_early 0 (omega arith) in
         let s = starts t i js w ws x in
         absurd (omega arith)
-    go (some j) (somebody P) ih = ih ∙ (λ y. from (picked t i js w ws x ties j P y) (starts t i js w ws x y))
+    go (Some j) (somebody P) ih = ih ∙ (λ y. from (picked t i js w ws x ties j P y) (starts t i js w ws x y))
 
 -- the rows that obey the rules are those that the dispatcher gives, and no others
 pub dispatch_only : (js : List Job) → Distinct js → NoTies js → (ws : List Row) → Obeys 0 js ws ↔ (ws ≡ dispatch js)
@@ -157,7 +157,7 @@ planned_only p ts sound = legal_only ts sound (planned p ts) (planned_legal p ts
 
 -- and the late job of a legal pattern that is named is the only one that can be
 pub legal_late : (ts : List Task) → AllSound ts → (js : List Job) → Legal ts js → (w : Row) → NamedLate (dispatch js) w
-    → late_job (dispatch js) ≡ some w.job
+    → late_job (dispatch js) ≡ Some w.job
 legal_late ts sound js l =
     let jobs = run_jobs (distinct_run js (legal_distinct ts sound js l)) in
     late_only (dispatch js) (λ v m u n. legal_ties ts sound js l v.job (jobs v m) u.job (jobs u n))

@@ -12,7 +12,7 @@ use borrow.Author.Tests.{lt-ltb, le-ltb, ne_eqb}
 use Rattle.rules.specs.Generator.{next_state, drawn, state_after, count_drawn, task_drawn, tasks_drawn, long_kernel, last_long, with_long, set_drawn, state_after_set, words_of, words_drawn, Draws, draw_refusal, draw_answer, draw_state, draw_table, DrawsSet}
 use Rattle.rules.specs.declared.Task.{Task}
 use Rattle.rules.specs.declared.Refusal.TheVariants.{TooShort}
-use Rattle.rules.specs.declared.ReadAnswer.{ReadAnswer}
+use Rattle.std.specs.Prelude.{Ok, Err}
 
 -- the state after a draw, in figures
 pub next_is : (s : ℕ) → next_state s ≡ (1664525 * s % 4294967296 + 1013904223) % 4294967296
@@ -147,7 +147,7 @@ words_of_append (τ ∷ ts) us = ap (λ (l : List ℕ). τ.C ∷ τ.D ∷ τ.T �
 -- THE SET
 module _ (s number : ℕ) (table : List ℕ) where
   -- 6: the table is shorter than the set drawn
-  pub set_refused : length table < 4 * count_drawn s → DrawsSet s number table (ReadAnswer.Refused TooShort) s table
+  pub set_refused : length table < 4 * count_drawn s → DrawsSet s number table (Err TooShort) s table
   unfolding draw_refusal draw_answer draw_state draw_table
   set_refused h =
       let e = lt-ltb (length table) (length (words_drawn number s)) (omega (arith, length_words_drawn number s)) in
@@ -155,7 +155,7 @@ module _ (s number : ℕ) (table : List ℕ) where
 
   -- the set's words, and the state after it
   pub set_given : 4 * count_drawn s ≤ length table
-      → DrawsSet s number table (ReadAnswer.Set (count_drawn s)) (state_after_set s) (words_drawn number s ++ drop (4 * count_drawn s) table)
+      → DrawsSet s number table (Ok (count_drawn s)) (state_after_set s) (words_drawn number s ++ drop (4 * count_drawn s) table)
   unfolding draw_refusal draw_answer draw_state draw_table
   set_given h =
       let n = length_words_drawn number s in
@@ -168,20 +168,20 @@ module _ (s number : ℕ) (table : List ℕ) where
 
 -- the same where n was drawn for the count, and the tasks from the state after that
 module _ {s n s₁ : ℕ} (number : ℕ) (table : List ℕ) (a : Draws s n s₁) where
-  pub set_short : length table < 4 * (1 + n % 8) → DrawsSet s number table (ReadAnswer.Refused TooShort) s table
+  pub set_short : length table < 4 * (1 + n % 8) → DrawsSet s number table (Err TooShort) s table
   set_short h = set_refused s number table (omega (arith, count_drew a))
 
   pub set_drew : {exit : List ℕ} {s₂ : ℕ} → 4 * (1 + n % 8) ≤ length table → s₂ ≡ state_after (4 * (1 + n % 8)) s₁
       → exit
       ≡ words_of (if eqb (number % 4) 0 then with_long (tasks_drawn (1 + n % 8) s₁) else tasks_drawn (1 + n % 8) s₁) ++ drop (4 * (1 + n % 8)) table
-      → DrawsSet s number table (ReadAnswer.Set (1 + n % 8)) s₂ exit
+      → DrawsSet s number table (Ok (1 + n % 8)) s₂ exit
   unfolding set_drawn state_after_set
   set_drew {exit} {s₂} h es ex =
       let k = count_drew a in
       let one : s₁ ≡ state_after 1 s = a.moves ∙ sym (first_state s) in
       let g = set_given s number table (omega (arith, k)) in
       record {
-        says = ap ReadAnswer.Set k ∙ g.says;
+        says = ap Ok k ∙ g.says;
         moves = es ∙ ap₂ (λ (i j : ℕ). state_after (4 * i) j) k one ∙ state_more 1 (4 * count_drawn s) s ∙ g.moves;
         leaves =
             ex

@@ -7,7 +7,6 @@ use native.Mathlib.Omega.{arith}
 use mathlib.Core.List.Memᴰ
 use mathlib.Core.List.{List, [], ◌∷◌, Memᴰ}
 use mathlib.Core.Bool.{Bool, true, false}
-use mathlib.Core.Option.{none}
 use lib.Dec.{eqb}
 use lib.ListN.{length, get_or}
 use Rattle.rules.specs.Table.{table_refusal, Ranged, Fine}
@@ -15,6 +14,7 @@ use Rattle.rules.specs.Generator.{drawn, state_after, count_drawn, task_drawn, t
 use Rattle.rules.specs.declared.Task.{Task}
 use Rattle.rules.proofs.Drawn.{count_low, count_high, length_words_drawn}
 use Rattle.rules.proofs.Refused.{refused_not}
+use Rattle.std.specs.Prelude.{None}
 
 -- each task as it is drawn: T 1 to 1,000, C 1 to T, D 1 to 2,000, R 0 to 999
 pub record Short (τ : Task) : Type 0 where
@@ -137,5 +137,5 @@ set_fine number s =
     }
 
 -- so it is not refused
-pub drawn_fine : (number s : ℕ) → table_refusal (words_drawn number s) ≡ none
+pub drawn_fine : (number s : ℕ) → table_refusal (words_drawn number s) ≡ None
 drawn_fine number s = (refused_not (words_drawn number s)).1 (set_fine number s)

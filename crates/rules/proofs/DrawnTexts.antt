@@ -9,12 +9,13 @@ use lib.ListN.{length, take, drop}
 use lib.Seq.{take_at}
 use Rattle.rules.specs.Text.{took, read_set, write_set}
 use Rattle.rules.specs.Generator.{count_drawn, words_drawn, state_after_set, state_after_sets, DrawsSet, generated}
-use Rattle.rules.specs.declared.ReadAnswer.{ReadAnswer}
 use Rattle.rules.proofs.Digits.{width_one}
 use Rattle.rules.proofs.SetTrips.{write_then_read}
 use Rattle.rules.proofs.TextLengths.{text_high}
 use Rattle.rules.proofs.Drawn.{count_high, length_words_drawn, set_given}
 use Rattle.rules.proofs.DrawnFine.{drawn_fine}
+use Rattle.std.specs.Prelude.{Result, Ok}
+use Rattle.rules.specs.declared.Refusal.{Refusal}
 
 -- the text of a set drawn: its first line has 8 bytes, and there are at most 32 others
 pub text_length : (number s : ℕ) → length (write_set (words_drawn number s)) ≤ 264
@@ -25,13 +26,13 @@ text_length number s =
     omega (arith, text_high ws (drawn_fine number s), width_one (length ws / 4) (omega arith))
 
 -- A SET is drawn into a table with room for eight tasks
-module _ {s number : ℕ} {table : List ℕ} {answer : ReadAnswer} {after : ℕ} {exit : List ℕ} (room : 32 ≤ length table)
+module _ {s number : ℕ} {table : List ℕ} {answer : Result ℕ Refusal} {after : ℕ} {exit : List ℕ} (room : 32 ≤ length table)
     (draws : DrawsSet s number table answer after exit) where
-  given : DrawsSet s number table (ReadAnswer.Set (count_drawn s)) (state_after_set s) (words_drawn number s ++ drop (4 * count_drawn s) table)
+  given : DrawsSet s number table (Ok (count_drawn s)) (state_after_set s) (words_drawn number s ++ drop (4 * count_drawn s) table)
   given = set_given s number table (omega (arith, count_high s))
 
   -- it is not refused
-  pub draw_answers : answer ≡ ReadAnswer.Set (count_drawn s)
+  pub draw_answers : answer ≡ Ok (count_drawn s)
   draw_answers = draws.says ∙ sym given.says
 
   pub draw_moves : after ≡ state_after_set s

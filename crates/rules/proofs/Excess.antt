@@ -13,13 +13,13 @@ use Rattle.rules.specs.Numbers.{word_most}
 use Rattle.rules.specs.Task.{tasks_of, executions, Sound, AllSound}
 use Rattle.rules.specs.Table.{tasks_from, Valid}
 use Rattle.rules.specs.declared.Task.{Task}
-use Rattle.rules.specs.declared.Blocker.{Blocker}
 use Rattle.rules.specs.declared.Verdict.{Verdict}
 use Rattle.rules.specs.Demand.{due, total_due, longest_wait, fails, excess, verdict}
 use Rattle.rules.proofs.Booleans.{true_is_not_false, lt_or_ge}
 use Rattle.rules.proofs.Tables.{tasks_are, sound_tasks, task_c_most}
 use Rattle.rules.proofs.Blockers.{blocker_nobody}
 use Rattle.rules.proofs.Verdicts.{First, fails_when, fails_not, fails_by, misses_when, div_grows, due_in, due_out, wait_in, wait_out, total_due_nought}
+use Rattle.std.specs.Prelude.{None}
 
 module _ (ts : List Task) (L : ℕ) where
   pub excess_is : excess L ts ≡ total_due L ts + longest_wait L ts - L
@@ -117,10 +117,10 @@ module _ (ts : List Task) (at_one : (τ : Task) → Memᴰ τ ts → τ.D ≡ 1)
       let one_job : τ.C * (1 + (1 - τ.D) / τ.T) ≡ τ.C * 1 = rw (nought, zero-div τ.T) in
       (omega (arith, due_in 1 τ (omega arith)), omega (arith, wait_out 1 τ (omega arith)))
 
-  pub excess_reached : 2 ≤ executions ts → verdict ts ≡ Verdict.Misses 1 Blocker.Nobody (executions ts - 1)
+  pub excess_reached : 2 ≤ executions ts → verdict ts ≡ Verdict.Misses 1 None (executions ts - 1)
   excess_reached h =
       let e = at_one_due ts at_one in
-      (misses_when ts 1 Blocker.Nobody (executions ts - 1)).1 (
+      (misses_when ts 1 None (executions ts - 1)).1 (
         record { low = omega arith; high = omega arith; passes = (fails_when ts 1).1 (omega arith, omega arith); none_before = λ y a b. absurd (omega arith) },
         sym ((blocker_nobody 1 ts).1 e.1),
         omega (arith, excess_is ts 1),

@@ -7,7 +7,6 @@ use native.Mathlib.Numerals.{add-one}
 use native.Mathlib.Omega.{arith}
 use mathlib.Core.List.{List, [], ◌∷◌, ◌++◌, append-nil, append_assoc}
 use mathlib.Core.Bool.{Bool, true, false}
-use mathlib.Core.Option.{Option, none, some}
 use lib.Dec.{eqb}
 use lib.ListN.{length, take, drop, get_or, drop_of_length-le}
 use lib.Seq.{drop-cons, drop-drop, take-add}
@@ -19,6 +18,7 @@ use Rattle.rules.specs.Standing.{standing, standing_step}
 use Rattle.rules.proofs.Booleans.{impossible, true_is_not_false}
 use Rattle.rules.proofs.ReadSteps.{empty, first_of}
 use Rattle.rules.proofs.Records.{double_other}
+use Rattle.std.specs.Prelude.{Option, Some, None}
 
 -- a mark
 module _ (b : ℕ) where
@@ -167,12 +167,12 @@ module _ (s : List ℕ) where
 
 -- the end of a record
 module _ (s : List ℕ) where
-  pub ends_sheet : length s ≡ 0 → after_end s ≡ some s
+  pub ends_sheet : length s ≡ 0 → after_end s ≡ Some s
   unfolding after_end
   ends_sheet e = rw (empty s e)
 
   module _ (p : 0 < length s) where
-    pub ends_lf : get_or s 0 0 ≡ 10 → after_end s ≡ some (drop 1 s)
+    pub ends_lf : get_or s 0 0 ≡ 10 → after_end s ≡ Some (drop 1 s)
     unfolding after_end
     ends_lf e = rw (first_of s p, eq-eqb (get_or s 0 0) 10 e)
 
@@ -182,19 +182,19 @@ module _ (s : List ℕ) where
 
 -- the last field of a record
 module _ (c : List ℕ) where
-  pub last_none : last_of c none ≡ no_step
+  pub last_none : last_of c None ≡ no_step
   unfolding last_of
   last_none = refl
 
-  pub last_some : (s : List ℕ) → last_of c (some s) ≡ last c s
+  pub last_some : (s : List ℕ) → last_of c (Some s) ≡ last c s
   unfolding last_of
   last_some s = refl
 
 -- the next field, as it stands, by the field as it stands
 last_standing : (c : List ℕ) (o : Option (List ℕ)) → standing_step (last_of c o) ≡ last_of (doubled c) o
 unfolding standing_step last_of
-last_standing c (some s) = refl
-last_standing c none = refl
+last_standing c (Some s) = refl
+last_standing c None = refl
 
 followed_standing : (f : Field) → standing_step (followed f) ≡ followed (standing f)
 unfolding standing_step standing followed

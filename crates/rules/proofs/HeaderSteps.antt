@@ -5,7 +5,6 @@ use Prim.Native.Nat.{ℕ, zero, suc, ◌+◌, ◌≤◌, ◌<◌}
 use native.Mathlib.Omega.{arith}
 use mathlib.Core.List.{List, [], ◌∷◌, ◌++◌}
 use mathlib.Core.Bool.{Bool, true, false, not, ◌&&◌}
-use mathlib.Core.Option.{none, some}
 use lib.Dec.{eqb}
 use lib.ListN.{length, get_or}
 use lib.Seq.{ext_get_or}
@@ -18,14 +17,15 @@ use Rattle.rules.proofs.Booleans.{split}
 use Rattle.rules.proofs.Records.{befores, befores_fields, befores_nothing}
 use Rattle.rules.proofs.SheetNames.{once_exact, column_is, header_exact}
 use Rattle.rules.proofs.SheetRecords.{header_of, sheet_none}
+use Rattle.std.specs.Prelude.{Some, None}
 
 -- a content is a name if nothing is left after it
 module _ (name c : List ℕ) where
-  pub name_missing : after_key name c ≡ none → is_name name c ≡ false
+  pub name_missing : after_key name c ≡ None → is_name name c ≡ false
   unfolding is_name
   name_missing e = rw e
 
-  pub name_begins : (left : List ℕ) → after_key name c ≡ some left → is_name name c ≡ eqb (length left) 0
+  pub name_begins : (left : List ℕ) → after_key name c ≡ Some left → is_name name c ≡ eqb (length left) 0
   unfolding is_name
   name_begins [] e = rw e
   name_begins (b ∷ left) e = rw (e, ne_eqb (suc (length left)) 0 (omega arith))

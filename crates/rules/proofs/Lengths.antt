@@ -9,13 +9,13 @@ use Rattle.rules.specs.Text.{Lines, took, stop, bytes, digits, line, key_of, rea
 use Rattle.rules.specs.Report.{blocker_word, verdict_lines, answer_lines, set_lines, set_rest}
 use Rattle.rules.specs.Answers.{first_answer}
 use Rattle.rules.specs.declared.Carried.{Carried}
-use Rattle.rules.specs.declared.Blocker.{Blocker}
 use Rattle.rules.specs.declared.Verdict.{Verdict}
-use Rattle.rules.specs.declared.VerdictAnswer.{VerdictAnswer}
 use Rattle.rules.proofs.Digits.{digits_least, digits_most}
 use Rattle.rules.proofs.WriteSteps.{line_length, key_length, set_length}
 use Rattle.rules.proofs.SetTrips.{set_back}
 use Rattle.rules.proofs.Printed.{lines_are, rest_read, rest_stops}
+use Rattle.std.specs.Prelude.{Option, Some, None, Result, Ok, Err}
+use Rattle.rules.specs.declared.Refusal.{Refusal}
 
 -- a line of a task has a key of two bytes, a digit and byte 10 at least
 lines_least : (k : ℕ) (ws : List ℕ) → 4 * length ws ≤ length (write_lines k ws)
@@ -43,9 +43,9 @@ rest_fewer text h = by_set (read_set text) refl
 number_line : (key : List ℕ) (v : ℕ) → length (line key (digits v)) ≤ length key + 11
 number_line key v = omega (arith, line_length key (digits v), digits_most v)
 
-blocker_most : (b : Blocker) → length (line (bytes "blocker=") (blocker_word b)) ≤ 19
-blocker_most (Blocker.Task k) = number_line (bytes "blocker=") k
-blocker_most Blocker.Nobody = omega (arith, line_length (bytes "blocker=") (bytes "none"))
+blocker_most : (b : Option ℕ) → length (line (bytes "blocker=") (blocker_word b)) ≤ 19
+blocker_most (Some k) = number_line (bytes "blocker=") k
+blocker_most None = omega (arith, line_length (bytes "blocker=") (bytes "none"))
 
 verdict_most : (v : Verdict) → length (verdict_lines v) ≤ 68
 verdict_most (Verdict.Meets σ) =
@@ -55,20 +55,20 @@ verdict_most (Verdict.Misses L b over) =
     (omega (arith, line_length (bytes "verdict=") (bytes "misses"), number_line (bytes "length=") L, blocker_most b, number_line (bytes "over=") over))
 verdict_most Verdict.TooFar = omega (arith, line_length (bytes "verdict=") (bytes "toofar"))
 
-carried_most : (c : Carried) → length (carried_line c) ≤ 18
-carried_most Carried.Nothing = omega arith
-carried_most (Carried.Word i) = omega (arith, number_line (bytes "word=") i)
-carried_most (Carried.Line l) = omega (arith, number_line (bytes "line=") l)
-carried_most (Carried.Record l) = number_line (bytes "record=") l
+carried_most : (c : Option Carried) → length (carried_line c) ≤ 18
+carried_most None = omega arith
+carried_most (Some (Carried.Word i)) = omega (arith, number_line (bytes "word=") i)
+carried_most (Some (Carried.Line l)) = omega (arith, number_line (bytes "line=") l)
+carried_most (Some (Carried.Record l)) = number_line (bytes "record=") l
 
 -- an answer's lines
-pub answer_most : (a : VerdictAnswer) → length (answer_lines a) ≤ 68
-answer_most (VerdictAnswer.Judged v) = verdict_most v
-answer_most (VerdictAnswer.Refused r) =
+pub answer_most : (a : Result Verdict Refusal) → length (answer_lines a) ≤ 68
+answer_most (Ok v) = verdict_most v
+answer_most (Err r) =
     simp length-append (omega (arith, number_line (bytes "refused=") (entry r).number, carried_most (entry r).carries))
 
 -- a set's lines, whatever its answer: 83 bytes at most
-pub said_most : (n : ℕ) (a : VerdictAnswer) → length (line (bytes "set=") (digits n) ++ answer_lines a) ≤ 83
+pub said_most : (n : ℕ) (a : Result Verdict Refusal) → length (line (bytes "set=") (digits n) ++ answer_lines a) ≤ 83
 said_most n a = simp length-append (omega (arith, number_line (bytes "set=") n, answer_most a))
 
 pub lines_most : (n : ℕ) (text : List ℕ) → length (set_lines n text) ≤ 83

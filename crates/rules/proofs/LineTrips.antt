@@ -7,12 +7,12 @@ use native.Mathlib.Nat.{pow-le-pow_right}
 use native.Mathlib.Omega.{arith}
 use mathlib.Core.List.{List, [], ◌∷◌, ◌++◌, append_assoc}
 use mathlib.Core.Bool.{Bool, true, false}
-use mathlib.Core.Option.{Option, none, some}
 use lib.Dec.{eqb}
 use borrow.Author.Tests.{eq-eqb, eqb-true, eqb-false}
 use Rattle.rules.specs.Text.{Read, got, bad, after_key, digit, more_digits, read_number, line_end, number_line, read_line, digits, line}
 use Rattle.rules.proofs.Digits.{digits_one, digits_more}
 use Rattle.rules.proofs.ReadSteps.{below_digits, a_digit, digit_range, more_other, more_step, number_zero, number_more, end_right}
+use Rattle.std.specs.Prelude.{Option, Some, None}
 
 -- what was read before: the digits of a number below 100,000
 pub record Was (s : List ℕ) (w : ℕ) (rest : List ℕ) : Type 0 where
@@ -129,18 +129,18 @@ number_stops v rest h stops =
 pub number_there : (v : ℕ) (rest : List ℕ) → v < 100000 → read_number (digits v ++ (10 ∷ rest)) ≡ got v (10 ∷ rest)
 number_there v rest h = number_stops v (10 ∷ rest) h (λ n. more_other v (10 ∷ rest) (omega arith) n (below_digits 10 (omega arith)))
 
-pub key_there : (key s : List ℕ) → after_key key (key ++ s) ≡ some s
+pub key_there : (key s : List ℕ) → after_key key (key ++ s) ≡ Some s
 unfolding after_key
 key_there [] s = refl
 key_there (k ∷ ks) s = rw (eq-eqb k k refl) (key_there ks s)
 
-pub key_back : (key s a : List ℕ) → after_key key s ≡ some a → s ≡ key ++ a
+pub key_back : (key s a : List ℕ) → after_key key s ≡ Some a → s ≡ key ++ a
 unfolding after_key
 key_back [] s a e = cc
 key_back (k ∷ ks) [] a e = let y : ◌≡◌ {A = ℕ} 0 1 = cc in absurd (omega arith)
 key_back (k ∷ ks) (b ∷ s) a e = choose (eqb b k) refl e (key_back ks s a)
   where
-    choose : (t : Bool) → eqb b k ≡ t → (if t then after_key ks s else none) ≡ some a → (after_key ks s ≡ some a → s ≡ ks ++ a) → b ∷ s ≡ k ∷ (ks ++ a)
+    choose : (t : Bool) → eqb b k ≡ t → (if t then after_key ks s else None) ≡ Some a → (after_key ks s ≡ Some a → s ≡ ks ++ a) → b ∷ s ≡ k ∷ (ks ++ a)
     choose true t e ih = ap₂ (λ (x : ℕ) (l : List ℕ). x ∷ l) (eqb-true b k t) (ih e)
     choose false t e ih = let y : ◌≡◌ {A = ℕ} 0 1 = cc in absurd (omega arith)
 
@@ -169,7 +169,7 @@ pub line_back : (key s : List ℕ) (v : ℕ) (rest : List ℕ) → read_line key
 unfolding read_line number_line line line_end
 line_back key s v rest e = with_key (after_key key s) refl e
   where
-    with_number : (a : List ℕ) → after_key key s ≡ some a → (r : Read) → read_number a ≡ r → line_end r ≡ got v rest → LineWas key s v rest
+    with_number : (a : List ℕ) → after_key key s ≡ Some a → (r : Read) → read_number a ≡ r → line_end r ≡ got v rest → LineWas key s v rest
     with_number a k bad q e = let y : ◌≡◌ {A = ℕ} 0 1 = cc in absurd (omega arith)
     with_number a k (got w b) q e =
         let f = end_back w b v rest e in
@@ -182,5 +182,5 @@ line_back key s v rest e = with_key (after_key key s) refl e
         }
 
     with_key : (o : Option (List ℕ)) → after_key key s ≡ o → number_line o ≡ got v rest → LineWas key s v rest
-    with_key none k e = let y : ◌≡◌ {A = ℕ} 0 1 = cc in absurd (omega arith)
-    with_key (some a) k e = with_number a k (read_number a) refl e
+    with_key None k e = let y : ◌≡◌ {A = ℕ} 0 1 = cc in absurd (omega arith)
+    with_key (Some a) k e = with_number a k (read_number a) refl e

@@ -11,10 +11,10 @@ use Rattle.rules.specs.Task.{tasks_of}
 use Rattle.rules.specs.declared.Task.{Task}
 use Rattle.rules.specs.Table.{task_in, task_count, ValidTable}
 use Rattle.rules.specs.Demand.{wait, longest_wait, first_waiting, blocker}
-use Rattle.rules.specs.declared.Blocker.{Blocker}
 use Rattle.rules.proofs.Booleans.{both, lt_or_ge}
 use Rattle.rules.proofs.Verdicts.{wait_in, wait_out}
 use Rattle.rules.proofs.TasksLeft.{tasks_left, left_none, left_more, left_all}
+use Rattle.std.specs.Prelude.{Some, None}
 
 -- most is the longest wait of the tasks, numbered from k on, and task the first that has it
 pub record Longest (L k : ℕ) (ts : List Task) (most task : ℕ) : Type 0 where
@@ -73,10 +73,10 @@ module _ (w : List ℕ) (L i : ℕ) (some_left : 0 < i) (in_range_law : i ≤ ta
 
 -- what they say of the blocker
 module _ (L : ℕ) (ts : List Task) (most task : ℕ) (h : Longest L 0 ts most task) where
-  pub longest_blocks : (most ≡ 0 → ⊥) → blocker L ts ≡ Blocker.Task task
+  pub longest_blocks : (most ≡ 0 → ⊥) → blocker L ts ≡ Some task
   unfolding blocker
-  longest_blocks n = rw (← h.most_is, lt-ltb 0 most (omega arith)) (ap Blocker.Task (sym (h.task_is (omega arith))))
+  longest_blocks n = rw (← h.most_is, lt-ltb 0 most (omega arith)) (ap Some (sym (h.task_is (omega arith))))
 
-  pub longest_nobody : most ≡ 0 → blocker L ts ≡ Blocker.Nobody
+  pub longest_nobody : most ≡ 0 → blocker L ts ≡ None
   unfolding blocker
   longest_nobody e = rw (← h.most_is, le-ltb 0 most (omega arith))

@@ -130,8 +130,8 @@ module _ (ts : List Task) (sound : AllSound ts) (σ : ℕ) (pos : 1 ≤ σ) (clo
         go (inl e) =
             let i = window in
             let z = its_task.d_pos in
-            let some = due_some (d - B.a) ts j.task fits.known (omega arith) its_task.c_pos in
-            let k = fails_false (d - B.a) ts (ok (d - B.a) (omega arith) (ltb-true _ _ e)) some in
+            let Some = due_some (d - B.a) ts j.task fits.known (omega arith) its_task.c_pos in
+            let k = fails_false (d - B.a) ts (ok (d - B.a) (omega arith) (ltb-true _ _ e)) Some in
             omega (arith, total_some (due_by d) js j P.mem (is_due d j h))
         go (inr e) =
             let i = window in

@@ -17,8 +17,8 @@ use Rattle.rules.specs.declared.Task.{Task}
 use Rattle.rules.specs.Dispatch.{Job}
 use Rattle.rules.specs.Jobs.{Train, OnTrain, train, trains, count_before, concrete_train, planned, concrete, named_train, named}
 use Rattle.rules.specs.Demand.{count_within, blocker}
-use Rattle.rules.specs.declared.Blocker.{Blocker}
 use Rattle.rules.proofs.Legal.{task_at_sound}
+use Rattle.std.specs.Prelude.{Some, None}
 
 -- the whole part of a quotient, as a count
 div_counts : (i m T : ℕ) → 1 ≤ T → (i < 1 + m / T) ↔ (i * T ≤ m)
@@ -202,13 +202,13 @@ within_train L ts j r d f sound e =
     )
 
 -- without a blocker the named pattern's jobs are those of the tasks' trains from 0 on that are due by L
-pub named_members : (L : ℕ) (ts : List Task) (j : Job) → AllSound ts → blocker L ts ≡ Blocker.Nobody
+pub named_members : (L : ℕ) (ts : List Task) (j : Job) → AllSound ts → blocker L ts ≡ None
     → Memᴰ j (named L ts) ↔ ((j.task < length ts) × (j.deadline ≤ L) × OnTrain 0 (task_of ts j) j)
 unfolding named_train
 named_members L ts j sound e = within_train L ts j 0 L (omega arith) sound (rw e)
 
 -- with a blocker they are its first job, released at 0,
-pub named_blocker : (L b : ℕ) (ts : List Task) (j : Job) → blocker L ts ≡ Blocker.Task b → j.task ≡ b
+pub named_blocker : (L b : ℕ) (ts : List Task) (j : Job) → blocker L ts ≡ Some b → j.task ≡ b
     → Memᴰ j (named L ts) ↔ ((j.task < length ts) × (j.number ≡ 0) × OnTrain 0 (task_of ts j) j)
 unfolding named_train
 named_blocker L b ts j e h =
@@ -216,7 +216,7 @@ named_blocker L b ts j e h =
     (λ m. let x = all.0 m in (x.0, omega arith, x.2), λ x. all.1 (x.0, omega arith, x.2))
 
 -- and those of the other tasks' trains from 1 on that are due by L + 1
-pub named_others : (L b : ℕ) (ts : List Task) (j : Job) → AllSound ts → blocker L ts ≡ Blocker.Task b → (j.task ≡ b → ⊥)
+pub named_others : (L b : ℕ) (ts : List Task) (j : Job) → AllSound ts → blocker L ts ≡ Some b → (j.task ≡ b → ⊥)
     → Memᴰ j (named L ts) ↔ ((j.task < length ts) × (j.deadline ≤ L + 1) × OnTrain 1 (task_of ts j) j)
 unfolding named_train
 named_others L b ts j sound e h = within_train L ts j 1 (L + 1) (omega arith) sound (rw (e, ne_eqb j.task b h))

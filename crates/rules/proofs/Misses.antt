@@ -15,7 +15,6 @@ use Rattle.rules.specs.Dispatch.{Job, dispatch}
 use Rattle.rules.specs.Jobs.{Train, train, trains, planned, named_train, named}
 use Rattle.rules.specs.Legal.{Legal}
 use Rattle.rules.specs.Demand.{count_within, due, total_due, longest_wait, fails, blocker, Blocks}
-use Rattle.rules.specs.declared.Blocker.{Blocker}
 use Rattle.rules.proofs.TasksFrom.{Rest, rest_all, rest_here, rest_next}
 use Rattle.rules.proofs.Members.{trains_members, named_members, named_blocker, named_others}
 use Rattle.rules.proofs.Trains.{train_of, trains_legal}
@@ -24,6 +23,7 @@ use Rattle.rules.proofs.Loads.{amount, total, since, due_load}
 use Rattle.rules.proofs.Blockers.{wait_most, wait_reached, blocker_task, blocker_nobody}
 use Rattle.rules.proofs.Verdicts.{fails_when, due_out}
 use Rattle.rules.proofs.Overfull.{LateIn, late_run, late_behind}
+use Rattle.std.specs.Prelude.{Option, Some, None}
 
 total_append : (p : Job → Bool) (xs ys : List Job) → total p (xs ++ ys) ≡ total p xs + total p ys
 unfolding total
@@ -60,7 +60,7 @@ module _ (ts : List Task) (sound : AllSound ts) (L : ℕ) where
 
   module _ (some : 1 ≤ total_due L ts) (more : L < total_due L ts + longest_wait L ts) where
     -- without a blocker: more is due by L than fits
-    alone : blocker L ts ≡ Blocker.Nobody → LateIn (dispatch (named L ts))
+    alone : blocker L ts ≡ None → LateIn (dispatch (named L ts))
     unfolding planned named_train
     alone e =
         let w = (blocker_nobody L ts).0 e in
@@ -71,7 +71,7 @@ module _ (ts : List Task) (sound : AllSound ts) (L : ℕ) where
         each k h = rw e (train_total 0 (count_within L (task_at ts k)) 0 0 k (task_at ts k) (omega arith) ∙ due_load L (task_at ts k))
 
     -- with one: it runs first, and behind it more is due by L + 1 than fits
-    behind : (b : ℕ) → blocker L ts ≡ Blocker.Task b → LateIn (dispatch (named L ts))
+    behind : (b : ℕ) → blocker L ts ≡ Some b → LateIn (dispatch (named L ts))
     unfolding planned named_train train total amount since
     behind b e =
         let c = cost in
@@ -127,6 +127,6 @@ misses ts sound L f = (named_legal ts sound L, named_full ts sound L, go (blocke
     facts : (1 ≤ total_due L ts) × (L < total_due L ts + longest_wait L ts)
     facts = (fails_when ts L).0 f
 
-    go : (o : Blocker) → blocker L ts ≡ o → LateIn (dispatch (named L ts))
-    go (Blocker.Task b) e = behind ts sound L facts.0 facts.1 b e
-    go Blocker.Nobody e = alone ts sound L facts.0 facts.1 e
+    go : (o : Option ℕ) → blocker L ts ≡ o → LateIn (dispatch (named L ts))
+    go (Some b) e = behind ts sound L facts.0 facts.1 b e
+    go None e = alone ts sound L facts.0 facts.1 e

@@ -4,12 +4,12 @@ use mathlib.Core.Path.{◌≡◌, refl, sym, ap, ◌∙◌}
 use Prim.Native.Nat.{ℕ, ◌≤◌, ◌<◌}
 use native.Mathlib.Omega.{arith}
 use mathlib.Core.Bool.{Bool, true, false, ◌&&◌, ◌||◌}
-use mathlib.Core.Option.{Option, none, some}
 use lib.Dec.{ltb, eqb}
 use borrow.Author.Tests.{eqb-true, eqb-false, ltb-true, ltb-false, lt-ltb, le-ltb, eq-eqb}
 use Rattle.rules.specs.Dispatch.{Job, before, sooner}
 use Rattle.rules.specs.Policy.{Ahead}
 use Rattle.rules.proofs.Booleans.{true_is_not_false, split}
+use Rattle.std.specs.Prelude.{Option, Some, None}
 
 pub ahead_self : (j : Job) → Ahead j j
 ahead_self j = record { deadline = omega arith; task = λ e. omega arith }
@@ -76,36 +76,36 @@ before_trans i j k p q = go (before i k) refl
     go false e = true_is_not_false (sym q ∙ ahead_first k j (ahead_trans k i j (before_false i k e) (before_true i j p)))
 
 -- of a job and another, the other where it goes before
-pub sooner_yes : (i j : Job) → before i j ≡ true → sooner j (some i) ≡ some i
+pub sooner_yes : (i j : Job) → before i j ≡ true → sooner j (Some i) ≡ Some i
 unfolding sooner
 sooner_yes i j e = rw e
 
-pub sooner_no : (i j : Job) → before i j ≡ false → sooner j (some i) ≡ some j
+pub sooner_no : (i j : Job) → before i j ≡ false → sooner j (Some i) ≡ Some j
 unfolding sooner
 sooner_no i j e = rw e
 
-pub sooner_none : (j : Job) → sooner j none ≡ some j
+pub sooner_none : (j : Job) → sooner j None ≡ Some j
 unfolding sooner
 sooner_none j = refl
 
 -- of two that may be missing, the one that goes before, the first where neither does
 abbrev pub earlier : Option Job → Option Job → Option Job
-earlier none o = o
-earlier (some j) o = sooner j o
+earlier None o = o
+earlier (Some j) o = sooner j o
 
-pub earlier_none : (o : Option Job) → earlier o none ≡ o
-earlier_none none = refl
-earlier_none (some j) = sooner_none j
+pub earlier_none : (o : Option Job) → earlier o None ≡ o
+earlier_none None = refl
+earlier_none (Some j) = sooner_none j
 
 pub earlier_assoc : (a b c : Option Job) → earlier (earlier a b) c ≡ earlier a (earlier b c)
 unfolding sooner
-earlier_assoc none b c = refl
-earlier_assoc (some i) none c = refl
-earlier_assoc (some i) (some j) none = earlier_none (sooner i (some j))
-earlier_assoc (some i) (some j) (some k) = go (before j i) refl (before k j) refl
+earlier_assoc None b c = refl
+earlier_assoc (Some i) None c = refl
+earlier_assoc (Some i) (Some j) None = earlier_none (sooner i (Some j))
+earlier_assoc (Some i) (Some j) (Some k) = go (before j i) refl (before k j) refl
   where
     go : (x : Bool) → before j i ≡ x → (y : Bool) → before k j ≡ y
-        → earlier (if x then some j else some i) (some k) ≡ sooner i (if y then some k else some j)
+        → earlier (if x then Some j else Some i) (Some k) ≡ sooner i (if y then Some k else Some j)
     go true p true q = rw (q, before_trans k j i q p)
     go true p false q = rw (q, p)
     go false p true q = refl
@@ -114,4 +114,4 @@ earlier_assoc (some i) (some j) (some k) = go (before j i) refl (before k j) ref
 -- a job that i is ahead of changes nothing behind i
 pub sooner_absorbs : (i j : Job) → Ahead i j → (o : Option Job) → sooner i (sooner j o) ≡ sooner i o
 sooner_absorbs i j a o =
-    sym (earlier_assoc (some i) (some j) o) ∙ ap (λ (x : Option Job). earlier x o) (sooner_no j i (ahead_first i j a))
+    sym (earlier_assoc (Some i) (Some j) o) ∙ ap (λ (x : Option Job). earlier x o) (sooner_no j i (ahead_first i j a))

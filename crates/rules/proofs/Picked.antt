@@ -1,7 +1,6 @@
 -- What the dispatcher's choice does: when the next job starts, and which one it is.
 use Rattle.std.specs.Prelude.{if◌then◌else◌}
 use mathlib.Core.Path.{◌≡◌, refl}
-use mathlib.Core.Option.{Option, none, some}
 use Prim.Native.Nat.{ℕ, min, ◌≤◌, ◌<◌}
 use mathlib.Core.List.Memᴰ
 use mathlib.Core.List.{List, [], ◌∷◌, Memᴰ}
@@ -13,6 +12,7 @@ use Rattle.rules.specs.Dispatch.{Job, before, sooner, pick, earliest}
 use Rattle.rules.specs.Policy.{Ahead}
 use Rattle.rules.proofs.Order.{ahead_self, ahead_trans, before_true, before_false}
 use Rattle.rules.proofs.Taken.{mem_cons}
+use Rattle.std.specs.Prelude.{Option, Some, None}
 
 -- no job of a list is released before the earliest release
 pub earliest_least : (j : Job) (js : List Job) (i : Job) → Memᴰ i (j ∷ js) → earliest j js ≤ i.release
@@ -40,19 +40,19 @@ pub record Picked (s : ℕ) (js : List Job) (j : Job) : Type 0 where
   pub first : (i : Job) → Memᴰ i js → i.release ≤ s → Ahead j i
 
 pub data Pick (s : ℕ) (js : List Job) : Option Job → Type 0 where
-  nobody : ((i : Job) → Memᴰ i js → s < i.release) → Pick s js none
-  somebody : {j : Job} → Picked s js j → Pick s js (some j)
+  nobody : ((i : Job) → Memᴰ i js → s < i.release) → Pick s js None
+  somebody : {j : Job} → Picked s js j → Pick s js (Some j)
 
 -- one job more, which is not released, or is ahead of those that are, or is behind the one picked
 module _ (s : ℕ) (j : Job) (js : List Job) where
-  keep : (i : Job) → Picked s js i → (j.release ≤ s → Ahead i j) → Pick s (j ∷ js) (some i)
+  keep : (i : Job) → Picked s js i → (j.release ≤ s → Ahead i j) → Pick s (j ∷ js) (Some i)
   keep i p h = somebody (record {
     mem = Memᴰ.tail p.mem;
     come = p.come;
     first = mem_cons (λ k. k.release ≤ s → Ahead i k) h p.first;
   })
 
-  change : j.release ≤ s → ((i : Job) → Memᴰ i js → i.release ≤ s → Ahead j i) → Pick s (j ∷ js) (some j)
+  change : j.release ≤ s → ((i : Job) → Memᴰ i js → i.release ≤ s → Ahead j i) → Pick s (j ∷ js) (Some j)
   change r h = somebody (record {
     mem = Memᴰ.head refl;
     come = r;
@@ -62,12 +62,12 @@ module _ (s : ℕ) (j : Job) (js : List Job) where
   pick_cons : (b : Bool) → (b ≡ true → j.release ≤ s) → (b ≡ false → s < j.release) → (o : Option Job) → Pick s js o
       → Pick s (j ∷ js) (if b then sooner j o else o)
   unfolding sooner
-  pick_cons false come not_yet none (nobody f) = nobody (mem_cons (λ i. s < i.release) (not_yet refl) f)
-  pick_cons false come not_yet (some i) (somebody p) = keep i p (λ r. let l = not_yet refl in absurd (omega arith))
-  pick_cons true come not_yet none (nobody f) = change (come refl) (λ i m r. let l = f i m in absurd (omega arith))
-  pick_cons true come not_yet (some i) (somebody p) = go (before i j) refl
+  pick_cons false come not_yet None (nobody f) = nobody (mem_cons (λ i. s < i.release) (not_yet refl) f)
+  pick_cons false come not_yet (Some i) (somebody p) = keep i p (λ r. let l = not_yet refl in absurd (omega arith))
+  pick_cons true come not_yet None (nobody f) = change (come refl) (λ i m r. let l = f i m in absurd (omega arith))
+  pick_cons true come not_yet (Some i) (somebody p) = go (before i j) refl
     where
-      go : (c : Bool) → before i j ≡ c → Pick s (j ∷ js) (if c then some i else some j)
+      go : (c : Bool) → before i j ≡ c → Pick s (j ∷ js) (if c then Some i else Some j)
       go true q = keep i p (λ r. before_true i j q)
       go false q = change (come refl) (λ k m r. ahead_trans j i k (before_false i j q) (p.first k m r))
 

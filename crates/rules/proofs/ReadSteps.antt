@@ -6,13 +6,13 @@ use native.Mathlib.Numerals.{add-one}
 use native.Mathlib.Omega.{arith}
 use mathlib.Core.List.{List, [], ◌∷◌}
 use mathlib.Core.Bool.{true, false}
-use mathlib.Core.Option.{none, some}
 use lib.Dec.{leb}
 use lib.ListN.{length, drop, get_or, drop_of_length-le}
 use lib.Seq.{drop-cons}
 use borrow.Author.Tests.{eq-eqb, ne_eqb, le-leb, lt-leb, leb-true}
 use Rattle.rules.specs.Text.{got, bad, after_key, digit, more_digits, read_number, line_end, number_line, read_line}
 use Rattle.rules.proofs.Booleans.{both_true}
+use Rattle.std.specs.Prelude.{Some, None}
 
 -- bytes of length 0
 pub empty : (s : List ℕ) → length s ≡ 0 → s ≡ []
@@ -26,7 +26,7 @@ first_of (b ∷ s) p = refl
 
 -- a key, of which i bytes are passed
 module _ (key t : List ℕ) (i : ℕ) where
-  pub key_end : length key ≤ i → after_key (drop i key) t ≡ some t
+  pub key_end : length key ≤ i → after_key (drop i key) t ≡ Some t
   unfolding after_key
   key_end h = rw (drop_of_length-le key h)
 
@@ -34,11 +34,11 @@ module _ (key t : List ℕ) (i : ℕ) where
     open_key : drop i key ≡ get_or key i 0 ∷ drop (i + 1) key
     open_key = rw (add-one, drop-cons key i 0)
 
-    pub key_none : length t ≡ 0 → after_key (drop i key) t ≡ none
+    pub key_none : length t ≡ 0 → after_key (drop i key) t ≡ None
     unfolding after_key
     key_none e = rw (open_key, empty t e)
 
-    pub key_wrong : 0 < length t → (get_or t 0 0 ≡ get_or key i 0 → ⊥) → after_key (drop i key) t ≡ none
+    pub key_wrong : 0 < length t → (get_or t 0 0 ≡ get_or key i 0 → ⊥) → after_key (drop i key) t ≡ None
     unfolding after_key
     key_wrong p n = rw (open_key, first_of t p, ne_eqb (get_or t 0 0) (get_or key i 0) n)
 
@@ -127,10 +127,10 @@ module _ (v : ℕ) (t : List ℕ) where
 
 -- a line, by what stands after its key
 module _ (key s : List ℕ) where
-  pub line_no_key : after_key key s ≡ none → read_line key s ≡ bad
+  pub line_no_key : after_key key s ≡ None → read_line key s ≡ bad
   unfolding read_line number_line
   line_no_key e = rw e
 
-  pub line_after_key : (a : List ℕ) → after_key key s ≡ some a → read_line key s ≡ line_end (read_number a)
+  pub line_after_key : (a : List ℕ) → after_key key s ≡ Some a → read_line key s ≡ line_end (read_number a)
   unfolding read_line number_line
   line_after_key a e = rw e

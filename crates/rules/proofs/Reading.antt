@@ -9,14 +9,14 @@ use lib.Seq.{take_at}
 use Rattle.rules.specs.Text.{Lines, took, stop, read_set, write_set}
 use Rattle.rules.specs.Calls.{Reads}
 use Rattle.rules.specs.declared.Refusal.TheVariants.{TooShort, BadLine}
-use Rattle.rules.specs.declared.ReadAnswer.{ReadAnswer}
-use Rattle.rules.specs.declared.ReadAnswer.TheVariants.{Set, Refused}
 use Rattle.rules.proofs.Calls.{read_stops, read_short, read_set_law}
 use Rattle.rules.proofs.SetTrips.{set_back}
 use Rattle.rules.proofs.WriteSteps.{set_length}
+use Rattle.std.specs.Prelude.{Result, Ok, Err}
+use Rattle.rules.specs.declared.Refusal.{Refusal}
 
 -- two outcomes of one reading are equal
-pub reads_one : (text table : List ℕ) (a b : ReadAnswer) (r q e f : List ℕ) → Reads text table a r e → Reads text table b q f → (a ≡ b) × ((r ≡ q) × (e ≡ f))
+pub reads_one : (text table : List ℕ) (a b : Result ℕ Refusal) (r q e f : List ℕ) → Reads text table a r e → Reads text table b q f → (a ≡ b) × ((r ≡ q) × (e ≡ f))
 reads_one text table a b r q e f x y = (x.says ∙ sym y.says, (x.hands_back ∙ sym y.hands_back, x.leaves ∙ sym y.leaves))
 
 -- the three ways in which a reading ends
@@ -43,21 +43,21 @@ ending text table = by_set (read_set text) refl
 pub record Took (text table : List ℕ) (n : ℕ) (rest exit : List ℕ) : Type 0 where
   pub set : read_set text ≡ took (take (4 * n) exit) rest
 
-pub took_set : (text table : List ℕ) {answer : ReadAnswer} {rest exit : List ℕ} (n : ℕ) → Reads text table answer rest exit → answer ≡ Set n → Took text table n rest exit
+pub took_set : (text table : List ℕ) {answer : Result ℕ Refusal} {rest exit : List ℕ} (n : ℕ) → Reads text table answer rest exit → answer ≡ Ok n → Took text table n rest exit
 took_set text table {answer} {rest} {exit} n r e = by_ending (ending text table)
   where
     by_ending : Ending text table → Took text table n rest exit
     by_ending (at_line l k) =
-        let f : Set n ≡ Refused (BadLine l) = sym e ∙ r.says ∙ sym (read_stops text table l k).says in
+        let f : ◌≡◌ {A = Result ℕ Refusal} (Ok n) (Err (BadLine l)) = sym e ∙ r.says ∙ sym (read_stops text table l k).says in
         let z : ◌≡◌ {A = ℕ} 0 1 = cc in
         absurd (omega arith)
     by_ending (no_room ws q k h) =
-        let f : Set n ≡ Refused TooShort = sym e ∙ r.says ∙ sym (read_short text table ws q k h).says in
+        let f : ◌≡◌ {A = Result ℕ Refusal} (Ok n) (Err TooShort) = sym e ∙ r.says ∙ sym (read_short text table ws q k h).says in
         let z : ◌≡◌ {A = ℕ} 0 1 = cc in
         absurd (omega arith)
     by_ending (whole ws q k h) =
         let o = reads_one text table _ _ _ _ _ _ r (read_set_law text table ws q k h) in
-        let a : Set n ≡ Set (length ws / 4) = sym e ∙ o.0 in
+        let a : ◌≡◌ {A = Result ℕ Refusal} (Ok n) (Ok (length ws / 4)) = sym e ∙ o.0 in
         let d : n ≡ length ws / 4 = cc in
         let i : length ws ≡ 4 * n = omega (arith, (set_back text ws q k).words) in
         let t : take (4 * n) exit ≡ ws = ap (take (4 * n)) o.1.1 ∙ take_at ws (drop (length ws) table) (4 * n) i in

@@ -6,7 +6,6 @@ use Prim.Native.Nat.{ℕ, zero, suc, ◌+◌, ◌-◌, ◌*◌, ◌≤◌, ◌<�
 use native.Mathlib.Omega.{arith}
 use mathlib.Core.List.{List, [], ◌∷◌, ◌++◌, append-nil}
 use mathlib.Core.Bool.{Bool, true, false, not, ◌&&◌}
-use mathlib.Core.Option.{Option, none, some}
 use lib.Dec.{eqb}
 use lib.ListN.{length}
 use borrow.Author.Tests.{eq-eqb, ne_eqb, eqb-true}
@@ -15,6 +14,7 @@ use Rattle.rules.specs.Sheet.{mark, Field, content, no_field, byte, read_plain, 
 use Rattle.rules.specs.Sheets.{doubled}
 use Rattle.rules.proofs.Booleans.{impossible, true_is_not_false, both_true, chosen}
 use Rattle.rules.proofs.ReadSteps.{digit_range}
+use Rattle.std.specs.Prelude.{Option, Some, None}
 
 -- how many bytes a field leaves
 left : Field → ℕ
@@ -59,8 +59,8 @@ unfolding left last_of followed
 more_shorter s c t e = by_field (read_field s) (field_left s) e
   where
     last_not_more : (d : List ℕ) (o : Option (List ℕ)) → last_of d o ≡ more c t → ⊥
-    last_not_more d none e = impossible cc
-    last_not_more d (some r) e = impossible cc
+    last_not_more d None e = impossible cc
+    last_not_more d (Some r) e = impossible cc
 
     by_comma : (d : List ℕ) (b : ℕ) (r : List ℕ) (t' : Bool) → length r < length s
         → (if t' then more d r else last_of d (after_end (b ∷ r))) ≡ more c t → length t < length s
@@ -151,7 +151,7 @@ double_first b c = go (eqb b 34) refl
 name_doubled : (name c : List ℕ) → quoteless name ≡ true → none_left (after_key name (doubled c)) ≡ none_left (after_key name c)
 unfolding after_key quoteless doubled
 name_doubled [] [] q = refl
-name_doubled [] (b ∷ c) q = let f = double_first b c in ap (λ (x : List ℕ). none_left (some x)) f.1
+name_doubled [] (b ∷ c) q = let f = double_first b c in ap (λ (x : List ℕ). none_left (Some x)) f.1
 name_doubled (k ∷ ks) [] q = refl
 name_doubled (k ∷ ks) (b ∷ c) q = by_byte (eqb b k) refl (name_doubled ks c (both_true (not (eqb k 34)) (quoteless ks) q).1)
   where
@@ -159,7 +159,7 @@ name_doubled (k ∷ ks) (b ∷ c) q = by_byte (eqb b k) refl (name_doubled ks c 
     other same f = true_is_not_false (sym (both_true (not (eqb k 34)) (quoteless ks) q).0 ∙ ap not (eq-eqb k 34 (sym same ∙ f)))
 
     by_byte : (t : Bool) → eqb b k ≡ t → none_left (after_key ks (doubled c)) ≡ none_left (after_key ks c)
-        → none_left (after_key (k ∷ ks) (doubled (b ∷ c))) ≡ none_left (if t then after_key ks c else none)
+        → none_left (after_key (k ∷ ks) (doubled (b ∷ c))) ≡ none_left (if t then after_key ks c else None)
     by_byte true e ih = rw (double_other b c (other (eqb-true b k e)), e) ih
     by_byte false e ih = let f = double_first b c in rw (f.1, e)
 

@@ -6,7 +6,6 @@ use native.Mathlib.Nat.{not-suc-le-zero}
 use native.Mathlib.Omega.{arith}
 use mathlib.Core.List.{List, [], ◌∷◌, ◌++◌, append-nil, append_assoc}
 use mathlib.Core.Bool.{Bool, true, false}
-use mathlib.Core.Option.{Option, none, some}
 use lib.Dec.{eqb}
 use lib.ListN.{length, get_or, get_or-append}
 use borrow.Author.Tests.{eq-eqb, ne_eqb}
@@ -15,27 +14,28 @@ use Rattle.rules.specs.Text.{got, bad, read_number}
 use Rattle.rules.specs.Sheet.{Record, fields, no_record, read_record, whole, field_number, also, numbers_in, Row, row, no_row, row_of, read_row, Sheet, tasks, wrong, no_header, words_ahead, or_wrong, at_record, read_tasks}
 use Rattle.rules.proofs.ReadSteps.{empty, first_of}
 use Rattle.rules.proofs.Records.{befores, befores_fields, befores_nothing}
+use Rattle.std.specs.Prelude.{Option, Some, None}
 
 -- a field's number, by what is read at its start
 module _ (c : List ℕ) where
-  pub no_number : read_number c ≡ bad → field_number c ≡ none
+  pub no_number : read_number c ≡ bad → field_number c ≡ None
   unfolding field_number whole
   no_number e = rw e
 
   module _ (v : ℕ) (s : List ℕ) (e : read_number c ≡ got v s) where
     -- nothing is left
-    pub whole_number : length s ≡ 0 → field_number c ≡ some v
+    pub whole_number : length s ≡ 0 → field_number c ≡ Some v
     unfolding field_number whole
     whole_number n = rw (e, empty s n)
 
     -- some bytes are
-    pub number_and_more : (length s ≡ 0 → ⊥) → field_number c ≡ none
+    pub number_and_more : (length s ≡ 0 → ⊥) → field_number c ≡ None
     unfolding field_number whole
     number_and_more n = let p : 0 < length s = omega arith in rw (e, first_of s p)
 
 -- the numbers in some columns of a record: all are as due
 numbers_all : (columns words : List ℕ) (cs : List (List ℕ)) → length words ≡ length columns
-    → ((k : ℕ) → k < length columns → field_number (get_or cs (get_or columns k 0 - 1) []) ≡ some (get_or words k 0)) → numbers_in columns cs ≡ some words
+    → ((k : ℕ) → k < length columns → field_number (get_or cs (get_or columns k 0 - 1) []) ≡ Some (get_or words k 0)) → numbers_in columns cs ≡ Some words
 unfolding also numbers_in
 numbers_all [] [] cs l h = refl
 numbers_all [] (w ∷ ws) cs l h = absurd (omega (arith, l))
@@ -43,15 +43,15 @@ numbers_all (k ∷ ks) [] cs l h = absurd (omega (arith, l))
 numbers_all (k ∷ ks) (w ∷ ws) cs l h = rw (h 0 (omega arith), numbers_all ks ws cs (omega (arith, l)) (λ j m. h (suc j) (omega arith)))
 
 -- or one is not
-numbers_none : (columns : List ℕ) (cs : List (List ℕ)) (k : ℕ) → k < length columns → field_number (get_or cs (get_or columns k 0 - 1) []) ≡ none → numbers_in columns cs ≡ none
+numbers_none : (columns : List ℕ) (cs : List (List ℕ)) (k : ℕ) → k < length columns → field_number (get_or cs (get_or columns k 0 - 1) []) ≡ None → numbers_in columns cs ≡ None
 unfolding also numbers_in
 numbers_none [] cs k h e = absurd (not-suc-le-zero h)
 numbers_none (j ∷ js) cs zero h e = rw e
 numbers_none (j ∷ js) cs (suc k) h e = rw (numbers_none js cs k (omega arith) e) (nothing (field_number (get_or cs (j - 1) [])))
   where
-    nothing : (v : Option ℕ) → also v none ≡ none
-    nothing (some v) = refl
-    nothing none = refl
+    nothing : (v : Option ℕ) → also v None ≡ None
+    nothing (Some v) = refl
+    nothing None = refl
 
 -- a task's record
 module _ (count : ℕ) (columns : List ℕ) where
@@ -67,16 +67,16 @@ module _ (count : ℕ) (columns : List ℕ) where
 
     -- it has as many, and a number in each column
     pub row_right : (s words : List ℕ) → length cs ≡ count → length words ≡ length columns
-        → ((k : ℕ) → k < length columns → field_number (get_or cs (get_or columns k 0 - 1) []) ≡ some (get_or words k 0)) → read_row count columns (fields cs s) ≡ row words s
+        → ((k : ℕ) → k < length columns → field_number (get_or cs (get_or columns k 0 - 1) []) ≡ Some (get_or words k 0)) → read_row count columns (fields cs s) ≡ row words s
     unfolding read_row row_of
     row_right s words e l h = rw (eq-eqb (length cs) count e, numbers_all columns words cs l h)
 
     -- one of its first fields is no number where one is due, whatever follows
-    pub row_wrong : (k : ℕ) → k < length columns → get_or columns k 0 - 1 < length cs → field_number (get_or cs (get_or columns k 0 - 1) []) ≡ none
+    pub row_wrong : (k : ℕ) → k < length columns → get_or columns k 0 - 1 < length cs → field_number (get_or cs (get_or columns k 0 - 1) []) ≡ None
         → (r : Record) → read_row count columns (befores cs r) ≡ no_row
     unfolding read_row row_of
     row_wrong k h l e (fields ds s) =
-        let f : numbers_in columns (cs ++ ds) ≡ none = numbers_none columns (cs ++ ds) k h (rw (get_or-append cs ds [] (get_or columns k 0 - 1) l) e) in
+        let f : numbers_in columns (cs ++ ds) ≡ None = numbers_none columns (cs ++ ds) k h (rw (get_or-append cs ds [] (get_or columns k 0 - 1) l) e) in
         rw (befores_fields cs ds s, f) (either_way (eqb (length (cs ++ ds)) count))
       where
         either_way : (t : Bool) → (if t then no_row else no_row) ≡ no_row

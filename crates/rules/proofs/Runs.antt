@@ -1,6 +1,5 @@
 -- The dispatcher's run as a relation: one step for each job.
 use mathlib.Core.Path.{◌≡◌, refl, sym}
-use mathlib.Core.Option.{Option, none, some}
 use Prim.Native.Nat.{ℕ, zero, suc, ◌+◌}
 use mathlib.Core.List.Memᴰ
 use mathlib.Core.List.{List, [], ◌∷◌, Memᴰ}
@@ -13,6 +12,7 @@ use Rattle.rules.specs.Legal.{Legal}
 use Rattle.rules.proofs.Taken.{Taken, taken_mem, taken_length, taken_cases, Distinct, taken_distinct, without_taken}
 use Rattle.rules.proofs.Legal.{legal_distinct}
 use Rattle.rules.proofs.Picked.{earliest_some, Picked, Pick, nobody, somebody, picks}
+use Rattle.std.specs.Prelude.{Option, Some, None}
 
 -- `Run t js ws`: with the tile free from tick t on, the jobs js run as the rows ws say
 pub data Run : ℕ → List Job → List Row → Type 0 where
@@ -31,9 +31,9 @@ rows_run (suc n) t (i ∷ js) d e = go (pick (ready t (i ∷ js)) (i ∷ js)) (p
   where
     go : (o : Option Job) → Pick (ready t (i ∷ js)) (i ∷ js) o
         → ((t : ℕ) (js : List Job) → Distinct js → length js ≡ n → Run t js (rows n t js))
-        → Run t (i ∷ js) (elim o as (λ _. List Row) [ none ↦ [] | some j ↦ record { job = j; start = ready t (i ∷ js) } ∷ rows n (ready t (i ∷ js) + j.run) (without j (i ∷ js)) ])
-    go none (nobody f) ih = let x = earliest_some i js in let h = f x.0 x.1 in absurd (unfold ready in omega arith)
-    go (some j) (somebody P) ih =
+        → Run t (i ∷ js) (elim o as (λ _. List Row) [ None ↦ [] | Some j ↦ record { job = j; start = ready t (i ∷ js) } ∷ rows n (ready t (i ∷ js) + j.run) (without j (i ∷ js)) ])
+    go None (nobody f) ih = let x = earliest_some i js in let h = f x.0 x.1 in absurd (unfold ready in omega arith)
+    go (Some j) (somebody P) ih =
         let k = without_taken (i ∷ js) d j P.mem in
         let len = taken_length k in
         step (ready t (i ∷ js)) refl P k (ih (ready t (i ∷ js) + j.run) (without j (i ∷ js)) (taken_distinct k d) (omega arith))

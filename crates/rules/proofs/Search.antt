@@ -3,11 +3,11 @@ use mathlib.Core.Path.{◌≡◌, refl, sym, ap, ◌∙◌}
 use Prim.Native.Nat.{ℕ, zero, suc, ◌+◌, ◌≤◌, ◌<◌}
 use native.Mathlib.Omega.{arith}
 use mathlib.Core.Bool.{Bool, true, false}
-use mathlib.Core.Option.{none, some}
 use lib.Dec.{eqb}
 use borrow.Author.Tests.{eqb-true, eqb-false}
 use Rattle.rules.specs.Choice.{least}
 use Rattle.rules.proofs.Booleans.{true_is_not_false}
+use Rattle.std.specs.Prelude.{Some, None}
 
 -- none of the numbers from k up to below e passes
 abbrev pub NonePasses : (ℕ → Bool) → ℕ → ℕ → Type 0
@@ -37,7 +37,7 @@ module _ (p : ℕ → Bool) where
   pub none_until : (k e : ℕ) → NonePasses p k e → p e ≡ false → NonePasses p k (e + 1)
   none_until k e before q y a b = at_or_on y e (omega arith) (λ i. rw (← i) q) (λ i. before y a i)
 
-  here : (n k : ℕ) → p k ≡ true → least p (suc n) k ≡ some k
+  here : (n k : ℕ) → p k ≡ true → least p (suc n) k ≡ Some k
   unfolding least
   here n k q = rw q
 
@@ -46,12 +46,12 @@ module _ (p : ℕ → Bool) where
   later n k q = rw q
 
   -- what was found is the least that passes
-  pub found : (n k x : ℕ) → least p n k ≡ some x → Least p n k x
+  pub found : (n k x : ℕ) → least p n k ≡ Some x → Least p n k x
   unfolding least
   found zero k x e = let z : ◌≡◌ {A = ℕ} 0 1 = cc in absurd (omega arith)
   found (suc n) k x e = go (p k) refl (found n (suc k) x)
     where
-      go : (b : Bool) → p k ≡ b → (least p n (suc k) ≡ some x → Least p n (suc k) x) → Least p (suc n) k x
+      go : (b : Bool) → p k ≡ b → (least p n (suc k) ≡ Some x → Least p n (suc k) x) → Least p (suc n) k x
       go true q ih =
           let i : k ≡ x = cc (here n k q) in
           rw (← i) (record { passes = q; low = omega arith; high = omega arith; none_before = λ y a b. absurd (omega arith) })
@@ -60,29 +60,29 @@ module _ (p : ℕ → Bool) where
           record { passes = f.passes; low = omega arith; high = omega arith; none_before = none_more k x q f.none_before }
 
   -- and the least that passes is found
-  pub finds : (n k x : ℕ) → Least p n k x → least p n k ≡ some x
+  pub finds : (n k x : ℕ) → Least p n k x → least p n k ≡ Some x
   finds zero k x f = absurd (omega arith)
   finds (suc n) k x f = go (p k) refl (finds n (suc k) x)
     where
-      go : (b : Bool) → p k ≡ b → (Least p n (suc k) x → least p n (suc k) ≡ some x) → least p (suc n) k ≡ some x
+      go : (b : Bool) → p k ≡ b → (Least p n (suc k) x → least p n (suc k) ≡ Some x) → least p (suc n) k ≡ Some x
       go true q ih =
-          at_or_on k x f.low (λ i. here n k q ∙ ap some (sym i))
+          at_or_on k x f.low (λ i. here n k q ∙ ap Some (sym i))
           (λ i. true_is_not_false (sym q ∙ f.none_before k (omega arith) i))
       go false q ih =
           at_or_on k x f.low (λ i. true_is_not_false (sym f.passes ∙ ap p i ∙ q))
           (λ i. later n k q ∙ ih (record { passes = f.passes; low = i; high = omega arith; none_before = λ y a b. f.none_before y (omega arith) b }))
 
   -- where none was found, none passes
-  pub none_found : (n k : ℕ) → least p n k ≡ none → NonePasses p k (k + n)
+  pub none_found : (n k : ℕ) → least p n k ≡ None → NonePasses p k (k + n)
   none_found zero k e = λ y a b. absurd (omega arith)
   none_found (suc n) k e = go (p k) refl (none_found n (suc k))
     where
-      go : (b : Bool) → p k ≡ b → (least p n (suc k) ≡ none → NonePasses p (suc k) (suc k + n)) → NonePasses p k (k + suc n)
+      go : (b : Bool) → p k ≡ b → (least p n (suc k) ≡ None → NonePasses p (suc k) (suc k + n)) → NonePasses p k (k + suc n)
       go true q ih = let z : ◌≡◌ {A = ℕ} 0 1 = cc (here n k q) in absurd (omega arith)
       go false q ih = none_more k (k + suc n) q (λ y a b. ih (sym (later n k q) ∙ e) y a (omega arith))
 
   -- and where none passes, none is found
-  pub finds_none : (n k : ℕ) → NonePasses p k (k + n) → least p n k ≡ none
+  pub finds_none : (n k : ℕ) → NonePasses p k (k + n) → least p n k ≡ None
   unfolding least
   finds_none zero k h = refl
   finds_none (suc n) k h = later n k (h k (omega arith) (omega arith)) ∙ finds_none n (suc k) (λ y a b. h y (omega arith) (omega arith))

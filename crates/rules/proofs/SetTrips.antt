@@ -5,7 +5,6 @@ use Prim.Native.Nat.{ℕ, zero, suc, ◌+◌, ◌*◌, ◌/◌, ◌%◌, ◌≤�
 use native.Mathlib.Omega.{arith}
 use mathlib.Core.List.{List, [], ◌∷◌, ◌++◌, append_assoc}
 use mathlib.Core.Bool.{Bool, true, false, ◌&&◌}
-use mathlib.Core.Option.{none}
 use lib.Dec.{leb}
 use lib.ListN.{length, get_or}
 use borrow.Author.Tests.{leb-true, le-leb}
@@ -14,6 +13,7 @@ use Rattle.rules.specs.Text.{Read, got, bad, Lines, took, stop, ahead, or_stop, 
 use Rattle.rules.proofs.Booleans.{both_true}
 use Rattle.rules.proofs.Tables.{valid_of}
 use Rattle.rules.proofs.LineTrips.{line_there, line_back}
+use Rattle.std.specs.Prelude.{None}
 
 -- words that a line can hold
 unfoldable pub Small : List ℕ → Type 0
@@ -72,7 +72,7 @@ set_there n ws rest c p q h =
     rw (append_assoc (line tasks_key (digits (length ws / 4))) (write_lines 0 ws) rest, d, line_there tasks_key n (write_lines 0 ws ++ rest) (omega arith), le-leb 1 n p, le-leb n 64 q, ← c, lines_there 0 ws rest h)
 
 -- so the text of a table that is not refused is read as that table
-pub write_then_read : (table after : List ℕ) → table_refusal table ≡ none → read_set (write_set table ++ after) ≡ took table after
+pub write_then_read : (table after : List ℕ) → table_refusal table ≡ None → read_set (write_set table ++ after) ≡ took table after
 write_then_read table after e =
     let v = valid_of table e in
     set_there (length table / 4) table after v.words v.some_task v.most_tasks (small_of table (λ i l. v.high i (omega arith)))

@@ -8,7 +8,6 @@ use native.Mathlib.Omega.{arith}
 use mathlib.Core.List.Memᴰ
 use mathlib.Core.List.{List, [], ◌∷◌, ◌++◌, append-nil, append_assoc, Memᴰ}
 use mathlib.Core.Bool.{Bool, true, false, ◌||◌}
-use mathlib.Core.Option.{Option, none, some}
 use lib.Dec.{eqb}
 use lib.ListN.{length}
 use borrow.Author.Tests.{ne_eqb, eqb-true, eqb-false}
@@ -18,6 +17,7 @@ use Rattle.rules.specs.Sheets.{doubled, Stands, Commas, Begins}
 use Rattle.rules.proofs.Booleans.{impossible}
 use Rattle.rules.proofs.LineTrips.{key_there, key_back}
 use Rattle.rules.proofs.Records.{double_other, more_shorter, record_more, record_last, record_none}
+use Rattle.std.specs.Prelude.{Option, Some, None}
 
 -- no quote, comma, CR or LF
 abbrev pub Plain : ℕ → Type 0
@@ -195,12 +195,12 @@ ends_follow Ends.crlf_ends = Follows.after_mark refl (λ (e : ◌≡◌ {A = ℕ
 ends_follow Ends.lf_ends = Follows.after_mark refl (λ (e : ◌≡◌ {A = ℕ} 10 34). omega arith)
 ends_follow Ends.sheet_ends = Follows.nothing
 
-end_back : (u t : List ℕ) → after_end u ≡ some t → Ends u t
+end_back : (u t : List ℕ) → after_end u ≡ Some t → Ends u t
 unfolding after_end
 end_back [] t e = let x : [] ≡ t = cc in subst (Ends []) x Ends.sheet_ends
 end_back (b ∷ u) t e = by_lf (eqb b 10) refl e
   where
-    by_lf : (l : Bool) → eqb b 10 ≡ l → (if l then some u else after_key crlf (b ∷ u)) ≡ some t → Ends (b ∷ u) t
+    by_lf : (l : Bool) → eqb b 10 ≡ l → (if l then Some u else after_key crlf (b ∷ u)) ≡ Some t → Ends (b ∷ u) t
     by_lf true l e = let x : u ≡ t = cc in subst (λ (y : List ℕ). Ends y t) (ap₂ (λ (i : ℕ) (y : List ℕ). i ∷ y) (sym (eqb-true b 10 l)) (sym x)) Ends.lf_ends
     by_lf false l e = subst (λ (y : List ℕ). Ends y t) (sym (key_back crlf (b ∷ u) t e)) Ends.crlf_ends
 
@@ -222,8 +222,8 @@ unfolding followed last_of
 next_was s = by_field (read_field s) refl
   where
     by_end : (c u : List ℕ) → read_field s ≡ content c u → (o : Option (List ℕ)) → after_end u ≡ o → NextWas s (last_of c o)
-    by_end c u f none e = NextWas.was_none
-    by_end c u f (some t) e = NextWas.was_last f (end_back u t e)
+    by_end c u f None e = NextWas.was_none
+    by_end c u f (Some t) e = NextWas.was_last f (end_back u t e)
 
     by_comma : (c : List ℕ) (b : ℕ) (u : List ℕ) → read_field s ≡ content c (b ∷ u) → (q : Bool) → eqb b 44 ≡ q
         → NextWas s (if q then more c u else last_of c (after_end (b ∷ u)))

@@ -7,7 +7,6 @@ use native.Mathlib.Omega.{arith}
 use mathlib.Core.Logic.{◌↔◌}
 use mathlib.Core.List.{List, [], ◌∷◌, append-nil}
 use mathlib.Core.Bool.{Bool, true, false, ◌&&◌}
-use mathlib.Core.Option.{Option, none, some}
 use lib.Dec.{eqb}
 use lib.ListN.{length, get_or}
 use borrow.Author.Tests.{eq-eqb, eqb-true}
@@ -17,6 +16,7 @@ use Rattle.rules.specs.Sheets.{Once}
 use Rattle.rules.proofs.Booleans.{impossible, true_is_not_false, both, both_true}
 use Rattle.rules.proofs.ReadSteps.{more_none}
 use Rattle.rules.proofs.LineTrips.{number_back, number_stops, key_there, key_back}
+use Rattle.std.specs.Prelude.{Option, Some, None}
 
 -- NAMES
 pub name_exact : (name h : List ℕ) → (is_name name h ≡ true) ↔ (h ≡ name)
@@ -27,9 +27,9 @@ name_exact name h = (
 )
   where
     by_left : (left : Option (List ℕ)) → after_key name h ≡ left → none_left left ≡ true → h ≡ name
-    by_left (some []) k e = key_back name h [] k ∙ append-nil name
-    by_left (some (b ∷ s)) k e = true_is_not_false (sym e)
-    by_left none k e = true_is_not_false (sym e)
+    by_left (Some []) k e = key_back name h [] k ∙ append-nil name
+    by_left (Some (b ∷ s)) k e = true_is_not_false (sym e)
+    by_left None k e = true_is_not_false (sym e)
 
 -- and no name where it is another
 name_other : (name h : List ℕ) → (h ≡ name → ⊥) → is_name name h ≡ false
@@ -125,11 +125,11 @@ header_exact hs = (
     one k o = eq-eqb (times (name_of k) hs) 1 ((once_exact (name_of k) hs).1 o)
 
 -- NUMBERS
-pub number_exact : (c : List ℕ) (v : ℕ) → (field_number c ≡ some v) ↔ ((v < 100000) × (c ≡ digits v))
+pub number_exact : (c : List ℕ) (v : ℕ) → (field_number c ≡ Some v) ↔ ((v < 100000) × (c ≡ digits v))
 unfolding field_number whole
 number_exact c v = (λ e. by_read (read_number c) refl e, λ p. there p.0 p.1)
   where
-    by_read : (r : Read) → read_number c ≡ r → whole r ≡ some v → (v < 100000) × (c ≡ digits v)
+    by_read : (r : Read) → read_number c ≡ r → whole r ≡ Some v → (v < 100000) × (c ≡ digits v)
     by_read (got w []) n e =
         let was = number_back c w [] n in
         let same : w ≡ v = cc in
@@ -137,6 +137,6 @@ number_exact c v = (λ e. by_read (read_number c) refl e, λ p. there p.0 p.1)
     by_read (got w (b ∷ s)) n e = impossible cc
     by_read bad n e = impossible cc
 
-    there : v < 100000 → c ≡ digits v → whole (read_number c) ≡ some v
+    there : v < 100000 → c ≡ digits v → whole (read_number c) ≡ Some v
     there l e =
         ap (λ (s : List ℕ). whole (read_number s)) (e ∙ sym (append-nil (digits v))) ∙ ap whole (number_stops v [] l (λ n. more_none v [] n refl))

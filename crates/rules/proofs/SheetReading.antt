@@ -10,34 +10,34 @@ use Rattle.rules.specs.Sheet.{Sheet, tasks, wrong, no_header, read_sheet}
 use Rattle.rules.specs.Answers.{read_sheet_refusal, read_sheet_answer, read_sheet_table}
 use Rattle.rules.specs.Calls.{ReadsSheet}
 use Rattle.rules.specs.declared.Refusal.TheVariants.{TooShort, NoHeader, BadRecord, NoRecord}
-use Rattle.rules.specs.declared.ReadAnswer.{ReadAnswer}
+use Rattle.std.specs.Prelude.{Ok, Err}
 
 module _ (sheet table : List ℕ) where
   -- 13
-  pub sheet_headless : read_sheet sheet ≡ no_header → ReadsSheet sheet table (ReadAnswer.Refused NoHeader) table
+  pub sheet_headless : read_sheet sheet ≡ no_header → ReadsSheet sheet table (Err NoHeader) table
   unfolding read_sheet_refusal read_sheet_answer read_sheet_table
   sheet_headless e = record { says = rw e; leaves = rw e }
 
   -- 14
-  pub sheet_stops : (l : ℕ) → read_sheet sheet ≡ wrong l → ReadsSheet sheet table (ReadAnswer.Refused (BadRecord l)) table
+  pub sheet_stops : (l : ℕ) → read_sheet sheet ≡ wrong l → ReadsSheet sheet table (Err (BadRecord l)) table
   unfolding read_sheet_refusal read_sheet_answer read_sheet_table
   sheet_stops l e = record { says = rw e; leaves = rw e }
 
   -- 15
-  pub sheet_empty : read_sheet sheet ≡ tasks [] → ReadsSheet sheet table (ReadAnswer.Refused NoRecord) table
+  pub sheet_empty : read_sheet sheet ≡ tasks [] → ReadsSheet sheet table (Err NoRecord) table
   unfolding read_sheet_refusal read_sheet_answer read_sheet_table
   sheet_empty e = record { says = rw e; leaves = rw e }
 
   -- some tasks, and room for them or not
   with_less : (w : ℕ) (ws : List ℕ) → read_sheet sheet ≡ tasks (w ∷ ws) → length table < length (w ∷ ws)
-      → ReadsSheet sheet table (ReadAnswer.Refused TooShort) table
+      → ReadsSheet sheet table (Err TooShort) table
   unfolding read_sheet_refusal read_sheet_answer read_sheet_table
   with_less w ws e h =
       let s = lt-ltb (length table) (length (w ∷ ws)) h in
       record { says = rw (e, s); leaves = rw (e, s) }
 
   with_room : (w : ℕ) (ws : List ℕ) → read_sheet sheet ≡ tasks (w ∷ ws) → length (w ∷ ws) ≤ length table
-      → ReadsSheet sheet table (ReadAnswer.Set (length (w ∷ ws) / 4)) ((w ∷ ws) ++ drop (length (w ∷ ws)) table)
+      → ReadsSheet sheet table (Ok (length (w ∷ ws) / 4)) ((w ∷ ws) ++ drop (length (w ∷ ws)) table)
   unfolding read_sheet_refusal read_sheet_answer read_sheet_table
   with_room w ws e h =
       let s = le-ltb (length table) (length (w ∷ ws)) h in
@@ -45,13 +45,13 @@ module _ (sheet table : List ℕ) where
 
   -- 6: the table is shorter than the tasks
   pub sheet_short : (ws : List ℕ) → read_sheet sheet ≡ tasks ws → 0 < length ws → length table < length ws
-      → ReadsSheet sheet table (ReadAnswer.Refused TooShort) table
+      → ReadsSheet sheet table (Err TooShort) table
   sheet_short [] e p h = absurd (omega arith)
   sheet_short (w ∷ ws) e p h = with_less w ws e h
 
   -- the tasks
   pub sheet_set : (ws : List ℕ) → read_sheet sheet ≡ tasks ws → 0 < length ws → length ws ≤ length table
-      → ReadsSheet sheet table (ReadAnswer.Set (length ws / 4)) (ws ++ drop (length ws) table)
+      → ReadsSheet sheet table (Ok (length ws / 4)) (ws ++ drop (length ws) table)
   sheet_set [] e p h = absurd (omega arith)
   sheet_set (w ∷ ws) e p h = with_room w ws e h
 

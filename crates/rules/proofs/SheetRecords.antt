@@ -7,7 +7,6 @@ use native.Mathlib.Omega.{arith}
 use mathlib.Core.Logic.{◌↔◌}
 use mathlib.Core.List.{List, [], ◌∷◌}
 use mathlib.Core.Bool.{Bool, true, false}
-use mathlib.Core.Option.{Option, none, some}
 use lib.Dec.{eqb}
 use lib.ListN.{length, get_or, length-append}
 use borrow.Author.Tests.{eq-eqb, eqb-true}
@@ -16,10 +15,11 @@ use Rattle.rules.specs.Sheets.{Begins, Once, Header, Under, Kernel, kernel, Task
 use Rattle.rules.proofs.Booleans.{impossible, true_is_not_false}
 use Rattle.rules.proofs.SheetGrammar.{record_exact}
 use Rattle.rules.proofs.SheetNames.{column_is, header_exact, number_exact}
+use Rattle.std.specs.Prelude.{Option, Some, None}
 
 -- NUMBERS
 -- the number in the column of a name
-under_exact : (name : List ℕ) (hs cs : List (List ℕ)) (v : ℕ) → Once name hs → (field_number (get_or cs (column_from 1 name hs - 1) []) ≡ some v) ↔ Under hs cs name v
+under_exact : (name : List ℕ) (hs cs : List (List ℕ)) (v : ℕ) → Once name hs → (field_number (get_or cs (column_from 1 name hs - 1) []) ≡ Some v) ↔ Under hs cs name v
 under_exact name hs cs v o = (
   λ e.
       let number = (number_exact (get_or cs (column_from 1 name hs - 1) []) v).0 e in
@@ -34,18 +34,18 @@ under_exact name hs cs v o = (
 -- the numbers in some columns of a record, one by one
 data Numbers (cs : List (List ℕ)) : List ℕ → List ℕ → Type 0 where
   no_column : Numbers cs [] []
-  column : {k v : ℕ} {ks vs : List ℕ} → field_number (get_or cs (k - 1) []) ≡ some v → Numbers cs ks vs → Numbers cs (k ∷ ks) (v ∷ vs)
+  column : {k v : ℕ} {ks vs : List ℕ} → field_number (get_or cs (k - 1) []) ≡ Some v → Numbers cs ks vs → Numbers cs (k ∷ ks) (v ∷ vs)
 
-numbers_were : (cs : List (List ℕ)) (columns ws : List ℕ) → numbers_in columns cs ≡ some ws → Numbers cs columns ws
+numbers_were : (cs : List (List ℕ)) (columns ws : List ℕ) → numbers_in columns cs ≡ Some ws → Numbers cs columns ws
 unfolding numbers_in also
 numbers_were cs [] ws e = let none_read : ws ≡ [] = cc in rw none_read no_column
 numbers_were cs (k ∷ ks) ws e = by_number (field_number (get_or cs (k - 1) [])) (numbers_in ks cs) refl refl e (numbers_were cs ks)
   where
-    by_number : (first : Option ℕ) (others : Option (List ℕ)) → field_number (get_or cs (k - 1) []) ≡ first → numbers_in ks cs ≡ others → also first others ≡ some ws
-        → ((vs : List ℕ) → numbers_in ks cs ≡ some vs → Numbers cs ks vs) → Numbers cs (k ∷ ks) ws
-    by_number (some v) (some vs) is are e later = let words : ws ≡ v ∷ vs = cc in rw words (column is (later vs are))
-    by_number (some v) none is are e later = impossible cc
-    by_number none others is are e later = impossible cc
+    by_number : (first : Option ℕ) (others : Option (List ℕ)) → field_number (get_or cs (k - 1) []) ≡ first → numbers_in ks cs ≡ others → also first others ≡ Some ws
+        → ((vs : List ℕ) → numbers_in ks cs ≡ Some vs → Numbers cs ks vs) → Numbers cs (k ∷ ks) ws
+    by_number (Some v) (Some vs) is are e later = let words : ws ≡ v ∷ vs = cc in rw words (column is (later vs are))
+    by_number (Some v) None is are e later = impossible cc
+    by_number None others is are e later = impossible cc
 
 -- a record that was read as a task: its fields, as many as due, and the numbers in their columns
 record RowWas (count : ℕ) (columns : List ℕ) (r : Record) (ws after : List ℕ) : Type 0 where
@@ -60,8 +60,8 @@ row_was count columns no_record ws after e = impossible cc
 row_was count columns (fields cs rest) ws after e = by_count (eqb (length cs) count) refl e
   where
     by_numbers : length cs ≡ count → (o : Option (List ℕ)) → numbers_in columns cs ≡ o → row_of o rest ≡ row ws after → RowWas count columns (fields cs rest) ws after
-    by_numbers as_many none n e = impossible cc
-    by_numbers as_many (some us) n e = record { cs = cs; from = cc; as_many = as_many; numbers = numbers_were cs columns ws (cc) }
+    by_numbers as_many None n e = impossible cc
+    by_numbers as_many (Some us) n e = record { cs = cs; from = cc; as_many = as_many; numbers = numbers_were cs columns ws (cc) }
 
     by_count : (t : Bool) → eqb (length cs) count ≡ t → (if t then row_of (numbers_in columns cs) rest else no_row) ≡ row ws after → RowWas count columns (fields cs rest) ws after
     by_count true t e = by_numbers (eqb-true (length cs) count t) (numbers_in columns cs) refl e

@@ -8,7 +8,6 @@ use native.Mathlib.Omega.{arith}
 use mathlib.Core.List.Memᴰ
 use mathlib.Core.List.{List, [], ◌∷◌, ◌++◌, append_assoc, Memᴰ}
 use mathlib.Core.Bool.{Bool, true, false, not, ◌&&◌}
-use mathlib.Core.Option.{none}
 use lib.Dec.{ltb}
 use lib.ListN.{length, length-append}
 use borrow.Author.Tests.{ne_eqb, lt-ltb, le-ltb}
@@ -21,6 +20,7 @@ use Rattle.rules.proofs.Tables.{valid_of}
 use Rattle.rules.proofs.SetTrips.{Small, small_of}
 use Rattle.rules.proofs.SheetGrammar.{Plain, plain_byte, record_exact}
 use Rattle.rules.proofs.SheetNames.{number_exact}
+use Rattle.std.specs.Prelude.{None}
 
 -- bytes with no mark among them
 unfoldable markless : List ℕ → Bool
@@ -149,7 +149,7 @@ tasks_there (suc m) (suc n) l k (a ∷ b ∷ d ∷ r ∷ ws) c h e q =
     (ap (words_ahead (a ∷ b ∷ d ∷ r ∷ [])) (tasks_there m n (suc l) (suc (suc (suc (suc k)))) ws (omega arith) (omega arith) (omega arith) q.1.1.1.1))
 
 -- so the sheet of a table that is not refused is read as that table
-pub sheet_then_table : (table : List ℕ) → table_refusal table ≡ none → read_sheet (write_sheet table) ≡ tasks table
+pub sheet_then_table : (table : List ℕ) → table_refusal table ≡ None → read_sheet (write_sheet table) ≡ tasks table
 unfolding read_sheet under_header
 sheet_then_table table e =
     let v = valid_of table e in

@@ -1,6 +1,5 @@
 -- The starred sets hold: one test computed over the whole table, and a law that turns the test of a row into what the row says.
 use mathlib.Core.Path.{◌≡◌, refl, sym, ap, ◌∙◌}
-use mathlib.Core.Option.{Option, none, some}
 use Prim.Native.Nat.{ℕ, ◌-◌, ◌≤◌}
 use native.Mathlib.Omega.{arith}
 use mathlib.Core.List.Memᴰ
@@ -19,11 +18,7 @@ use Rattle.rules.specs.Numbers.{end_most, horizon}
 use Rattle.rules.specs.Demand.{count_within, due, total_due, wait, longest_wait, fails, excess, ceiling, work, closes, first_fail, span, first_waiting, blocker, verdict}
 use Rattle.rules.specs.Answers.{schedule_rows, is_misses, named_by, pattern_rows, schedule_answer, schedule_buffer, verdict_answer, pattern_answer, pattern_buffer}
 use Rattle.rules.specs.Stars.{set, Outcome, meets, misses, on_time, pattern, Star, stars, Right, Stars}
-use Rattle.rules.specs.declared.Blocker.{Blocker}
 use Rattle.rules.specs.declared.Verdict.{Verdict}
-use Rattle.rules.specs.declared.VerdictAnswer.{VerdictAnswer}
-use Rattle.rules.specs.declared.ScheduleAnswer.{ScheduleAnswer}
-use Rattle.rules.specs.declared.PatternAnswer.{PatternAnswer}
 use Rattle.rules.proofs.Booleans.{both_true, true_is_not_false}
 use Rattle.rules.proofs.Tables.{table_sound}
 use Rattle.rules.proofs.RowWords.{length_row_words}
@@ -32,15 +27,16 @@ use Rattle.rules.proofs.RowWords.{length_row_words}
 use Rattle.rules.proofs.Search.{found, none_found}
 use Rattle.rules.proofs.BelowTheSpan.{least_below}
 use Rattle.rules.proofs.Verdicts.{First, NoneIn, none_when, misses_when, meets_when}
+use Rattle.std.specs.Prelude.{Option, Some, None, Ok}
 
 -- tests of equality
 abbrev nothing : {A : Type 0} → Option A → Bool
-nothing none = true
-nothing (some a) = false
+nothing None = true
+nothing (Some a) = false
 
 abbrev just : ℕ → Option ℕ → Bool
-just x none = false
-just x (some y) = eqb x y
+just x None = false
+just x (Some y) = eqb x y
 
 abbrev alike : List ℕ → List ℕ → Bool
 alike [] [] = true
@@ -48,19 +44,19 @@ alike [] (y ∷ ys) = false
 alike (x ∷ xs) [] = false
 alike (x ∷ xs) (y ∷ ys) = eqb x y && alike xs ys
 
-abbrev one_blocker : Blocker → Blocker → Bool
-one_blocker (Blocker.Task a) (Blocker.Task b) = eqb a b
-one_blocker (Blocker.Task a) Blocker.Nobody = false
-one_blocker Blocker.Nobody (Blocker.Task b) = false
-one_blocker Blocker.Nobody Blocker.Nobody = true
+abbrev one_blocker : Option ℕ → Option ℕ → Bool
+one_blocker (Some a) (Some b) = eqb a b
+one_blocker (Some a) None = false
+one_blocker None (Some b) = false
+one_blocker None None = true
 
-nothing_true : {A : Type 0} (o : Option A) → nothing o ≡ true → o ≡ none
-nothing_true none e = refl
-nothing_true (some a) e = true_is_not_false (sym e)
+nothing_true : {A : Type 0} (o : Option A) → nothing o ≡ true → o ≡ None
+nothing_true None e = refl
+nothing_true (Some a) e = true_is_not_false (sym e)
 
-just_true : (x : ℕ) (o : Option ℕ) → just x o ≡ true → o ≡ some x
-just_true x none e = true_is_not_false (sym e)
-just_true x (some y) e = ap some (sym (eqb-true x y e))
+just_true : (x : ℕ) (o : Option ℕ) → just x o ≡ true → o ≡ Some x
+just_true x None e = true_is_not_false (sym e)
+just_true x (Some y) e = ap Some (sym (eqb-true x y e))
 
 alike_true : (xs ys : List ℕ) → alike xs ys ≡ true → xs ≡ ys
 alike_true [] [] e = refl
@@ -72,11 +68,11 @@ alike_true (x ∷ xs) (y ∷ ys) e =
     let q = alike_true xs ys b.1 in
     cc
 
-blocker_true : (a b : Blocker) → one_blocker a b ≡ true → b ≡ a
-blocker_true (Blocker.Task a) (Blocker.Task b) e = ap Blocker.Task (sym (eqb-true a b e))
-blocker_true (Blocker.Task a) Blocker.Nobody e = true_is_not_false (sym e)
-blocker_true Blocker.Nobody (Blocker.Task b) e = true_is_not_false (sym e)
-blocker_true Blocker.Nobody Blocker.Nobody e = refl
+blocker_true : (a b : Option ℕ) → one_blocker a b ≡ true → b ≡ a
+blocker_true (Some a) (Some b) e = ap Some (sym (eqb-true a b e))
+blocker_true (Some a) None e = true_is_not_false (sym e)
+blocker_true None (Some b) e = true_is_not_false (sym e)
+blocker_true None None e = refl
 
 -- the tests of a row; of a set that meets, only lengths below the span are looked at
 tests : List ℕ → Outcome → List Bool
@@ -112,28 +108,28 @@ each (b ∷ bs) e = let x = both_true b (every bs) e in (x.0, each bs x.1)
 
 -- a set that closes at σ and of which no length below σ fails meets, with that span where it is the first to close
 module _ (ts : List Task) (sound : AllSound ts) where
-  none_fails : (σ : ℕ) → 1 ≤ σ → closes σ ts ≡ true → least (λ L. fails L ts) (σ - 1) 1 ≡ none → NoneIn (λ L. fails L ts)
+  none_fails : (σ : ℕ) → 1 ≤ σ → closes σ ts ≡ true → least (λ L. fails L ts) (σ - 1) 1 ≡ None → NoneIn (λ L. fails L ts)
   none_fails σ pos c e = (none_when (λ L. fails L ts)).0 (go (least (λ L. fails L ts) horizon 1) refl)
     where
-      go : (o : Option ℕ) → least (λ L. fails L ts) horizon 1 ≡ o → o ≡ none
-      go none q = refl
-      go (some L) q =
+      go : (o : Option ℕ) → least (λ L. fails L ts) horizon 1 ≡ o → o ≡ None
+      go None q = refl
+      go (Some L) q =
           let f = found (λ L. fails L ts) horizon 1 L q in
           let l = least_below ts sound σ pos c L f.passes f.none_before in
           true_is_not_false (sym f.passes ∙ none_found (λ L. fails L ts) (σ - 1) 1 e L f.low (omega arith))
 
   -- the least of a short search is that of the search to H
-  first_of : (p : ℕ → Bool) (x : ℕ) → least p x 1 ≡ some x → x ≤ horizon → First p x
+  first_of : (p : ℕ → Bool) (x : ℕ) → least p x 1 ≡ Some x → x ≤ horizon → First p x
   first_of p x e h =
       let f = found p x 1 x e in
       record { low = f.low; high = h; passes = f.passes; none_before = f.none_before }
 
-  meets_right : (σ : ℕ) → least (λ t. closes t ts) σ 1 ≡ some σ → least (λ L. fails L ts) (σ - 1) 1 ≡ none → σ ≤ horizon → verdict ts ≡ Verdict.Meets σ
+  meets_right : (σ : ℕ) → least (λ t. closes t ts) σ 1 ≡ Some σ → least (λ L. fails L ts) (σ - 1) 1 ≡ None → σ ≤ horizon → verdict ts ≡ Verdict.Meets σ
   meets_right σ c e h =
       let f = first_of (λ t. closes t ts) σ c h in
       (meets_when ts σ).1 (none_fails σ f.low f.passes e, f)
 
-  misses_right : (L : ℕ) (b : Blocker) (over : ℕ) → least (λ K. fails K ts) L 1 ≡ some L → b ≡ blocker L ts → over ≡ excess L ts → L ≤ horizon
+  misses_right : (L : ℕ) (b : Option ℕ) (over : ℕ) → least (λ K. fails K ts) L 1 ≡ Some L → b ≡ blocker L ts → over ≡ excess L ts → L ≤ horizon
       → verdict ts ≡ Verdict.Misses L b over
   misses_right L b over e i j h = (misses_when ts L b over).1 (first_of (λ K. fails K ts) L e h, i, j)
 
@@ -142,9 +138,9 @@ filled : (xs out : List ℕ) → length out ≡ length xs → xs ++ drop (length
 filled xs out e = rw (drop_of_length-le out {i = length xs} (omega arith)) (append-nil xs)
 
 -- the rows, where nothing is refused
-module _ (w : List ℕ) (f : table_refusal w ≡ none) (n : ℕ) (words out : List ℕ) (fits : length out ≡ length words) where
+module _ (w : List ℕ) (f : table_refusal w ≡ None) (n : ℕ) (words out : List ℕ) (fits : length out ≡ length words) where
   schedule_right : (z : ℕ) → 1 ≤ z → z ≤ end_most → n ≡ length (schedule_rows w z) → row_words (schedule_rows w z) ≡ words
-      → late_job (schedule_rows w z) ≡ none → (schedule_answer w z out ≡ ScheduleAnswer.OnTime n) × (schedule_buffer w z out ≡ words)
+      → late_job (schedule_rows w z) ≡ None → (schedule_answer w z out ≡ Ok (record { rows = n; late = None })) × (schedule_buffer w z out ≡ words)
   schedule_right z low high e i l =
       let m = length_row_words (schedule_rows w z) in
       let k = ap (λ (xs : List ℕ). length xs) i in
@@ -152,23 +148,23 @@ module _ (w : List ℕ) (f : table_refusal w ≡ none) (n : ℕ) (words out : Li
       (sym x.says ∙ rw (l, e), sym x.leaves ∙ rw i (filled words out fits))
 
   pattern_right : is_misses (verdict (tasks_of w)) ≡ true → n ≡ length (pattern_rows w) → row_words (pattern_rows w) ≡ words
-      → (pattern_answer w out ≡ PatternAnswer.Rows n) × (pattern_buffer w out ≡ words)
+      → (pattern_answer w out ≡ Ok n) × (pattern_buffer w out ≡ words)
   pattern_right v e i =
       let m = length_row_words (pattern_rows w) in
       let k = ap (λ (xs : List ℕ). length xs) i in
       let x = pattern_rows_law w out f v (dispatch_rows (named_by (verdict (tasks_of w)) w) out (omega arith)) in
-      (sym x.says ∙ (counted (length (pattern_rows w)) (late_job (pattern_rows w)) ∙ ap PatternAnswer.Rows (sym e)), sym x.leaves ∙ rw i (filled words out fits))
+      (sym x.says ∙ (counted (length (pattern_rows w)) (late_job (pattern_rows w)) ∙ ap Ok (sym e)), sym x.leaves ∙ rw i (filled words out fits))
 
 -- a row that passes its tests is right
-right : (w : List ℕ) (o : Outcome) → table_refusal w ≡ none → Each (tests w o) → Right w o
+right : (w : List ℕ) (o : Outcome) → table_refusal w ≡ None → Each (tests w o) → Right w o
 unfolding tests verdict_answer
 right w (meets σ) f e =
     rw f
-    (ap VerdictAnswer.Judged
+    (ap Ok
     (meets_right (tasks_of w) (table_sound w f) σ (just_true σ _ e.0) (nothing_true _ e.1.0) (leb-true _ _ e.1.1.0)))
 right w (misses L b over) f e =
     rw f
-    (ap VerdictAnswer.Judged
+    (ap Ok
     (misses_right (tasks_of w) (table_sound w f) L b over (just_true L _ e.0) (blocker_true _ b e.1.0) (eqb-true _ _ e.1.1.0) (leb-true _ _ e.1.1.1.0)))
 right w (on_time z n words) f e = λ out h.
     schedule_right w f n words out h z (leb-true _ _ e.0) (leb-true _ _ e.1.0) (eqb-true _ _ e.1.1.0) (alike_true _ _ e.1.1.1.0) (nothing_true _ e.1.1.1.1.0)
@@ -201,11 +197,11 @@ stars_hold = rows_right stars table_passes
 
 -- and a set that has the greatest excess of any table, by the same tests
 abbrev greatest : Star
-greatest = record { tasks = replicate 64 (65535, 1, 1); outcome = misses 1 Blocker.Nobody 4194239 }
+greatest = record { tasks = replicate 64 (65535, 1, 1); outcome = misses 1 None 4194239 }
 
 greatest_passes : passes (greatest ∷ []) ≡ true
 unfolding tests word_least in_range out_of_range table_refusal tasks_of least due total_due wait longest_wait fails excess first_waiting blocker count_within
 greatest_passes = refl
 
-pub greatest_excess : verdict_answer (set greatest.tasks) ≡ VerdictAnswer.Judged (Verdict.Misses 1 Blocker.Nobody 4194239)
+pub greatest_excess : verdict_answer (set greatest.tasks) ≡ Ok (Verdict.Misses 1 None 4194239)
 greatest_excess = rows_right (greatest ∷ []) greatest_passes greatest (Memᴰ.head refl)

@@ -4,7 +4,6 @@ use Prim.Native.Nat.{ℕ, ◌+◌, ◌%◌, ◌≤◌, ◌<◌}
 use native.Mathlib.Numerals.{add-one}
 use mathlib.Core.List.{List}
 use mathlib.Core.Bool.{true, false}
-use mathlib.Core.Option.{Option, none, some}
 use lib.ListN.{length, drop, get_or, drop_of_length-le}
 use lib.Seq.{drop-cons}
 use borrow.Author.Tests.{le-leb, lt-leb, eq-eqb, ne_eqb, lt-ltb, le-ltb}
@@ -13,8 +12,8 @@ use Rattle.rules.specs.Refusals.{answering}
 use Rattle.rules.specs.Table.{word_least, in_range, out_of_range, table_refusal, table_answer}
 use Rattle.rules.specs.declared.Refusal.{Refusal}
 use Rattle.rules.specs.declared.Refusal.TheVariants.{NoWord, NotFours, TooManyWords, OutOfRange}
-use Rattle.rules.specs.declared.TableAnswer.TheVariants.{Fine, Refused}
 use Rattle.rules.proofs.Calls.{alone}
+use Rattle.std.specs.Prelude.{Option, Some, None, Ok, Err}
 
 -- the least value of a word: of R, and of C, D and T
 module _ (i : ℕ) where
@@ -42,7 +41,7 @@ module _ (i x : ℕ) where
 
 -- the words from index i on: none is left; the first of them fits; it is out of its range
 module _ (w : List ℕ) (i : ℕ) where
-  pub past_all : length w ≤ i → out_of_range i (drop i w) ≡ none
+  pub past_all : length w ≤ i → out_of_range i (drop i w) ≡ None
   unfolding out_of_range
   past_all h = rw (drop_of_length-le w h)
 
@@ -51,28 +50,28 @@ module _ (w : List ℕ) (i : ℕ) where
     unfolding out_of_range
     word_fits e = rw (add-one, drop-cons w i 0, e)
 
-    pub word_out : in_range i (get_or w i 0) ≡ false → out_of_range i (drop i w) ≡ some (OutOfRange i)
+    pub word_out : in_range i (get_or w i 0) ≡ false → out_of_range i (drop i w) ≡ Some (OutOfRange i)
     unfolding out_of_range
     word_out e = rw (drop-cons w i 0, e)
 
 -- refusals 1, 2 and 3 by the table's length, each in its turn; else the words decide
 module _ (w : List ℕ) where
-  pub no_word : length w ≡ 0 → table_answer w ≡ Refused NoWord
+  pub no_word : length w ≡ 0 → table_answer w ≡ Err NoWord
   unfolding table_answer table_refusal
   no_word e = rw (eq-eqb (length w) 0 e)
 
   module _ (n : length w ≡ 0 → ⊥) where
-    pub not_fours : (length w % 4 ≡ 0 → ⊥) → table_answer w ≡ Refused NotFours
+    pub not_fours : (length w % 4 ≡ 0 → ⊥) → table_answer w ≡ Err NotFours
     unfolding table_answer table_refusal
     not_fours h = rw (ne_eqb (length w) 0 n, ne_eqb (length w % 4) 0 h)
 
     module _ (f : length w % 4 ≡ 0) where
-      pub too_many : table_most < length w → table_answer w ≡ Refused TooManyWords
+      pub too_many : table_most < length w → table_answer w ≡ Err TooManyWords
       unfolding table_answer table_refusal
       too_many h = rw (ne_eqb (length w) 0 n, eq-eqb (length w % 4) 0 f, lt-ltb table_most (length w) h)
 
-      pub by_words : length w ≤ table_most → table_answer w ≡ answering (out_of_range 0 w) Refused Fine
+      pub by_words : length w ≤ table_most → table_answer w ≡ answering (out_of_range 0 w) Err (Ok tt)
       unfolding table_answer table_refusal
       by_words h =
           rw (ne_eqb (length w) 0 n, eq-eqb (length w % 4) 0 f, le-ltb table_most (length w) h)
-          (ap (λ (o : Option Refusal). answering o Refused Fine) (alone (out_of_range 0 w)))
+          (ap (λ (o : Option Refusal). answering o Err (Ok (tt {0}))) (alone (out_of_range 0 w)))

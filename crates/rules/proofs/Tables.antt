@@ -7,7 +7,6 @@ use native.Mathlib.Omega.{arith}
 use mathlib.Core.List.Memᴰ
 use mathlib.Core.List.{List, [], ◌∷◌}
 use mathlib.Core.Bool.{Bool, true, false, not}
-use mathlib.Core.Option.{Option, none, some}
 use lib.Dec.{leb, ltb, eqb}
 use lib.ListN.{length, get_or, drop, drop_of_length-le}
 use lib.Seq.{drop-cons}
@@ -20,28 +19,29 @@ use Rattle.rules.specs.Table.{word_least, in_range, out_of_range, table_refusal,
 use Rattle.rules.specs.declared.Refusal.{Refusal}
 use Rattle.rules.specs.declared.Refusal.TheVariants.{NoWord, NotFours, TooManyWords, OutOfRange}
 use Rattle.rules.proofs.Booleans.{both_true}
+use Rattle.std.specs.Prelude.{Option, Some, None}
 
 -- a refusal is not none
-some_is_not_none : {A : Type 0} {r : Refusal} → ◌≡◌ {A = Option Refusal} (some r) none → A
+some_is_not_none : {A : Type 0} {r : Refusal} → ◌≡◌ {A = Option Refusal} (Some r) None → A
 some_is_not_none e = let z : ◌≡◌ {A = ℕ} 0 1 = cc in absurd (omega arith)
 
 -- the first of the refusals is not given, nor is any later one
-pub not_given : (o : Option Refusal) (os : List (Option Refusal)) → first_of (o ∷ os) ≡ none → (o ≡ none) × (first_of os ≡ none)
-not_given none os e = (refl, e)
-not_given (some r) os e = some_is_not_none e
+pub not_given : (o : Option Refusal) (os : List (Option Refusal)) → first_of (o ∷ os) ≡ None → (o ≡ None) × (first_of os ≡ None)
+not_given None os e = (refl, e)
+not_given (Some r) os e = some_is_not_none e
 
-pub when_not : (r : Refusal) (b : Bool) → (r when b) ≡ none → b ≡ false
+pub when_not : (r : Refusal) (b : Bool) → (r when b) ≡ None → b ≡ false
 when_not r true e = some_is_not_none e
 when_not r false e = refl
 
 -- every word from index k on is in its range
-in_range_law : (k : ℕ) (w : List ℕ) → out_of_range k w ≡ none → (i : ℕ) → i < length w → in_range (k + i) (get_or w i 0) ≡ true
+in_range_law : (k : ℕ) (w : List ℕ) → out_of_range k w ≡ None → (i : ℕ) → i < length w → in_range (k + i) (get_or w i 0) ≡ true
 unfolding out_of_range
 in_range_law k [] e i h = absurd (omega arith)
 in_range_law k (x ∷ w) e i h = go (in_range k x) refl e i h (in_range_law (suc k) w)
   where
-    go : (b : Bool) → in_range k x ≡ b → (if b then out_of_range (suc k) w else some (OutOfRange k)) ≡ none → (i : ℕ) → i < length (x ∷ w)
-        → (out_of_range (suc k) w ≡ none → (i : ℕ) → i < length w → in_range (suc k + i) (get_or w i 0) ≡ true)
+    go : (b : Bool) → in_range k x ≡ b → (if b then out_of_range (suc k) w else Some (OutOfRange k)) ≡ None → (i : ℕ) → i < length (x ∷ w)
+        → (out_of_range (suc k) w ≡ None → (i : ℕ) → i < length w → in_range (suc k + i) (get_or w i 0) ≡ true)
         → in_range (k + i) (get_or (x ∷ w) i 0) ≡ true
     go true p q zero h ih = rw add-zero p
     go true p q (suc i) h ih = let s : suc k + i ≡ k + suc i = omega arith in subst (λ (n : ℕ). in_range n (get_or w i 0) ≡ true) s (ih q i (omega arith))
@@ -59,13 +59,13 @@ unfolding in_range
 range_high i x e = leb-true _ _ (both_true (leb (word_least i) x) (leb x word_most) e).1
 
 -- a table that is not refused, in bounds
-pub valid_of : (w : List ℕ) → table_refusal w ≡ none → Valid w (length w / 4)
+pub valid_of : (w : List ℕ) → table_refusal w ≡ None → Valid w (length w / 4)
 unfolding table_refusal
 valid_of w e =
-    let a : (one ≡ none) × (first_of (two ∷ three ∷ out_of_range 0 w ∷ []) ≡ none) = not_given one (two ∷ three ∷ out_of_range 0 w ∷ []) e in
-    let b : (two ≡ none) × (first_of (three ∷ out_of_range 0 w ∷ []) ≡ none) = not_given two (three ∷ out_of_range 0 w ∷ []) a.1 in
-    let c : (three ≡ none) × (first_of (out_of_range 0 w ∷ []) ≡ none) = not_given three (out_of_range 0 w ∷ []) b.1 in
-    let d : (out_of_range 0 w ≡ none) × (first_of [] ≡ none) = not_given (out_of_range 0 w) [] c.1 in
+    let a : (one ≡ None) × (first_of (two ∷ three ∷ out_of_range 0 w ∷ []) ≡ None) = not_given one (two ∷ three ∷ out_of_range 0 w ∷ []) e in
+    let b : (two ≡ None) × (first_of (three ∷ out_of_range 0 w ∷ []) ≡ None) = not_given two (three ∷ out_of_range 0 w ∷ []) a.1 in
+    let c : (three ≡ None) × (first_of (out_of_range 0 w ∷ []) ≡ None) = not_given three (out_of_range 0 w ∷ []) b.1 in
+    let d : (out_of_range 0 w ≡ None) × (first_of [] ≡ None) = not_given (out_of_range 0 w) [] c.1 in
     let ne : length w ≡ 0 → ⊥ = eqb-false _ _ (when_not NoWord (eqb (length w) 0) a.0) in
     let fours : length w % 4 ≡ 0 = eqb-true _ _ (not-false _ (when_not NotFours (not (eqb (length w % 4) 0)) b.0)) in
     let most : length w ≤ 256 = ltb-false _ _ (when_not TooManyWords (ltb 256 (length w)) c.0) in
@@ -153,5 +153,5 @@ sound_from w m (suc n) k v h τ (Memᴰ.tail x) = sound_from w m n (suc k) v (om
 pub sound_tasks : (w : List ℕ) (m : ℕ) → Valid w m → AllSound (tasks_of w)
 sound_tasks w m v = subst (λ (ts : List Task). AllSound ts) (sym (tasks_are w m v.words)) (sound_from w m m 0 v (omega arith))
 
-pub table_sound : (w : List ℕ) → table_refusal w ≡ none → AllSound (tasks_of w)
+pub table_sound : (w : List ℕ) → table_refusal w ≡ None → AllSound (tasks_of w)
 table_sound w e = sound_tasks w (length w / 4) (valid_of w e)

@@ -7,7 +7,7 @@ use borrow.Author.Tests.{le-leb, lt-leb, lt-ltb, le-ltb, eq-eqb, ne_eqb}
 use Rattle.rules.specs.declared.Task.{Task}
 use Rattle.rules.specs.Demand.{count_within, due}
 use Rattle.rules.specs.Jobs.{count_before, concrete_train, named_train}
-use Rattle.rules.specs.declared.Blocker.{Blocker}
+use Rattle.std.specs.Prelude.{Option, Some, None}
 
 module _ (x : ℕ) (τ : Task) where
   pub within_some : τ.D ≤ x → count_within x τ ≡ 1 + (x - τ.D) / τ.T
@@ -42,14 +42,14 @@ concrete_train_law z k τ = refl
 
 -- the train of task k where nobody holds the tile, that of the blocker, and that of another task
 module _ (L k : ℕ) (τ : Task) where
-  pub nobody_train : (b : Blocker) → b ≡ Blocker.Nobody → named_train L b k τ ≡ record { first = 0; count = count_within L τ }
+  pub nobody_train : (b : Option ℕ) → b ≡ None → named_train L b k τ ≡ record { first = 0; count = count_within L τ }
   unfolding named_train
   nobody_train b e = rw e
 
-  pub blocker_train : (b : Blocker) (i : ℕ) → b ≡ Blocker.Task i → k ≡ i → named_train L b k τ ≡ record { first = 0; count = 1 }
+  pub blocker_train : (b : Option ℕ) (i : ℕ) → b ≡ Some i → k ≡ i → named_train L b k τ ≡ record { first = 0; count = 1 }
   unfolding named_train
   blocker_train b i e h = rw (e, eq-eqb k i h)
 
-  pub other_train : (b : Blocker) (i : ℕ) → b ≡ Blocker.Task i → (k ≡ i → ⊥) → named_train L b k τ ≡ record { first = 1; count = count_within L τ }
+  pub other_train : (b : Option ℕ) (i : ℕ) → b ≡ Some i → (k ≡ i → ⊥) → named_train L b k τ ≡ record { first = 1; count = count_within L τ }
   unfolding named_train
   other_train b i e h = rw (e, ne_eqb k i h)

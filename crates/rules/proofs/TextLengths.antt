@@ -4,7 +4,6 @@ use Prim.Native.Nat.{ℕ, zero, suc, ◌+◌, ◌*◌, ◌/◌, ◌%◌, ◌^◌
 use native.Mathlib.Decide.{dec_lt}
 use native.Mathlib.Omega.{arith}
 use mathlib.Core.List.{List, [], ◌∷◌, ◌++◌}
-use mathlib.Core.Option.{none}
 use lib.ListN.{length, get_or, length-append}
 use Rattle.rules.specs.Table.{table_refusal}
 use Rattle.rules.specs.Text.{digits, line, key_of, write_lines, write_set}
@@ -13,6 +12,7 @@ use Rattle.rules.proofs.Tables.{valid_of}
 use Rattle.rules.proofs.Digits.{width_one, width_more}
 use Rattle.rules.proofs.WriteSteps.{line_length, key_length, set_length}
 use Rattle.rules.proofs.SheetWriting.{sheet_length}
+use Rattle.std.specs.Prelude.{None}
 
 -- a number below 10 ^ (k + 1) has at most k + 1 digits
 width_most : (k v : ℕ) → v < 10 ^ 10 → v < 10 ^ suc k → length (digits v) ≤ suc k
@@ -71,7 +71,7 @@ records_high k (w ∷ ws) h =
       records_high (suc k) ws (others_high w ws h),
     )
 
-module _ (ws : List ℕ) (e : table_refusal ws ≡ none) where
+module _ (ws : List ℕ) (e : table_refusal ws ≡ None) where
   words_high : High ws
   words_high i g = let bounds = valid_of ws e in bounds.high i (omega (arith, bounds.words))
 

@@ -7,7 +7,6 @@ use native.Mathlib.Omega.{arith}
 use mathlib.Core.List.Memᴰ
 use mathlib.Core.List.{List, [], ◌∷◌}
 use mathlib.Core.Bool.{Bool, true, false}
-use mathlib.Core.Option.{Option, none, some}
 use lib.Dec.{ltb}
 use borrow.Author.Tests.{leb-true, ltb-true, le-leb, lt-ltb, le-ltb, lt-leb}
 use Rattle.rules.specs.Choice.{least}
@@ -15,10 +14,10 @@ use Rattle.rules.specs.Task.{AllSound}
 use Rattle.rules.specs.declared.Task.{Task}
 use Rattle.rules.specs.Numbers.{horizon}
 use Rattle.rules.specs.Demand.{count_within, due, total_due, wait, longest_wait, fails, excess, ceiling, work, closes, first_fail, span, blocker, judge, verdict}
-use Rattle.rules.specs.declared.Blocker.{Blocker}
 use Rattle.rules.specs.declared.Verdict.{Verdict}
 use Rattle.rules.proofs.Booleans.{both, both_true, true_is_not_false, lt_or_ge}
 use Rattle.rules.proofs.Search.{found, finds, none_found, finds_none}
+use Rattle.std.specs.Prelude.{Option, Some, None}
 
 -- x is the least number from 1 to H that passes
 pub record First (p : ℕ → Bool) (x : ℕ) : Type 0 where
@@ -32,7 +31,7 @@ abbrev pub NoneIn : (ℕ → Bool) → Type 0
 NoneIn p = (y : ℕ) → 1 ≤ y → y ≤ horizon → p y ≡ false
 
 -- the search from 1 to H, in these words
-pub first_when : (p : ℕ → Bool) (x : ℕ) → (least p horizon 1 ≡ some x) ↔ First p x
+pub first_when : (p : ℕ → Bool) (x : ℕ) → (least p horizon 1 ≡ Some x) ↔ First p x
 first_when p x = (
   λ e.
       let f = found p horizon 1 x e in
@@ -40,7 +39,7 @@ first_when p x = (
   λ f. finds p horizon 1 x (record { passes = f.passes; low = f.low; high = omega arith; none_before = f.none_before }),
 )
 
-pub none_when : (p : ℕ → Bool) → (least p horizon 1 ≡ none) ↔ NoneIn p
+pub none_when : (p : ℕ → Bool) → (least p horizon 1 ≡ None) ↔ NoneIn p
 none_when p =
     (λ e y a b. none_found p horizon 1 e y a (omega arith), λ h. finds_none p horizon 1 (λ y a b. h y a (omega arith)))
 
@@ -65,28 +64,28 @@ module _ (ts : List Task) where
   closes_when t = (leb-true _ _, le-leb _ _)
 
   -- which searches give which verdict
-  misses_of : (o s : Option ℕ) (L : ℕ) (b : Blocker) (over : ℕ) → judge o s ts ≡ Verdict.Misses L b over
-      → (o ≡ some L) × (b ≡ blocker L ts) × (over ≡ excess L ts)
-  misses_of (some K) s L b over e =
+  misses_of : (o s : Option ℕ) (L : ℕ) (b : Option ℕ) (over : ℕ) → judge o s ts ≡ Verdict.Misses L b over
+      → (o ≡ Some L) × (b ≡ blocker L ts) × (over ≡ excess L ts)
+  misses_of (Some K) s L b over e =
       let i : K ≡ L = cc in
       let j : b ≡ blocker K ts = cc in
       let k : over ≡ excess K ts = cc in
-      (ap some i, j ∙ ap (λ (x : ℕ). blocker x ts) i, k ∙ ap (λ (x : ℕ). excess x ts) i)
-  misses_of none (some σ) L b over e = let z : ◌≡◌ {A = ℕ} 0 1 = cc in absurd (omega arith)
-  misses_of none none L b over e = let z : ◌≡◌ {A = ℕ} 0 1 = cc in absurd (omega arith)
+      (ap Some i, j ∙ ap (λ (x : ℕ). blocker x ts) i, k ∙ ap (λ (x : ℕ). excess x ts) i)
+  misses_of None (Some σ) L b over e = let z : ◌≡◌ {A = ℕ} 0 1 = cc in absurd (omega arith)
+  misses_of None None L b over e = let z : ◌≡◌ {A = ℕ} 0 1 = cc in absurd (omega arith)
 
-  meets_of : (o s : Option ℕ) (σ : ℕ) → judge o s ts ≡ Verdict.Meets σ → (o ≡ none) × (s ≡ some σ)
-  meets_of (some K) s σ e = let z : ◌≡◌ {A = ℕ} 0 1 = cc in absurd (omega arith)
-  meets_of none (some t) σ e = let i : t ≡ σ = cc in (refl, ap some i)
-  meets_of none none σ e = let z : ◌≡◌ {A = ℕ} 0 1 = cc in absurd (omega arith)
+  meets_of : (o s : Option ℕ) (σ : ℕ) → judge o s ts ≡ Verdict.Meets σ → (o ≡ None) × (s ≡ Some σ)
+  meets_of (Some K) s σ e = let z : ◌≡◌ {A = ℕ} 0 1 = cc in absurd (omega arith)
+  meets_of None (Some t) σ e = let i : t ≡ σ = cc in (refl, ap Some i)
+  meets_of None None σ e = let z : ◌≡◌ {A = ℕ} 0 1 = cc in absurd (omega arith)
 
-  too_far_of : (o s : Option ℕ) → judge o s ts ≡ Verdict.TooFar → (o ≡ none) × (s ≡ none)
-  too_far_of (some K) s e = let z : ◌≡◌ {A = ℕ} 0 1 = cc in absurd (omega arith)
-  too_far_of none (some t) e = let z : ◌≡◌ {A = ℕ} 0 1 = cc in absurd (omega arith)
-  too_far_of none none e = (refl, refl)
+  too_far_of : (o s : Option ℕ) → judge o s ts ≡ Verdict.TooFar → (o ≡ None) × (s ≡ None)
+  too_far_of (Some K) s e = let z : ◌≡◌ {A = ℕ} 0 1 = cc in absurd (omega arith)
+  too_far_of None (Some t) e = let z : ◌≡◌ {A = ℕ} 0 1 = cc in absurd (omega arith)
+  too_far_of None None e = (refl, refl)
 
   -- MISSES exactly when some L from 1 to H fails; it carries the least such L, its blocker and its excess
-  pub misses_when : (L : ℕ) (b : Blocker) (over : ℕ)
+  pub misses_when : (L : ℕ) (b : Option ℕ) (over : ℕ)
       → (verdict ts ≡ Verdict.Misses L b over) ↔ (First (λ K. fails K ts) L × (b ≡ blocker L ts) × (over ≡ excess L ts))
   unfolding verdict first_fail
   misses_when L b over = (
@@ -105,7 +104,7 @@ module _ (ts : List Task) where
         ((none_when (λ K. fails K ts)).0 h.0, (first_when (λ t. closes t ts) σ).0 h.1),
     λ h.
         ap (λ (o : Option ℕ). judge o (span ts) ts) ((none_when (λ K. fails K ts)).1 h.0)
-        ∙ ap (λ (s : Option ℕ). judge none s ts) ((first_when (λ t. closes t ts) σ).1 h.1),
+        ∙ ap (λ (s : Option ℕ). judge None s ts) ((first_when (λ t. closes t ts) σ).1 h.1),
   )
 
   -- TOO FAR exactly when no such L fails and there is no span of at most H
@@ -117,7 +116,7 @@ module _ (ts : List Task) where
         ((none_when (λ K. fails K ts)).0 h.0, (none_when (λ t. closes t ts)).0 h.1),
     λ h.
         ap (λ (o : Option ℕ). judge o (span ts) ts) ((none_when (λ K. fails K ts)).1 h.0)
-        ∙ ap (λ (s : Option ℕ). judge none s ts) ((none_when (λ t. closes t ts)).1 h.1),
+        ∙ ap (λ (s : Option ℕ). judge None s ts) ((none_when (λ t. closes t ts)).1 h.1),
   )
 
 -- a quotient, and a quotient rounded up, grow with the number

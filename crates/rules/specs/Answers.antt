@@ -1,6 +1,5 @@
 -- Of each call the answer, and every lent buffer at exit, as functions of the inputs; refusals in the documents' order.
 use Rattle.std.specs.Prelude.{ℕ, ◌*◌, ◌/◌, List, [], ◌∷◌, Bool, true, false, not, ◌||◌, ltb, eqb, length}
-use Rattle.std.proofs.Math.Option.{Option, none, some}
 use Rattle.rules.specs.Task.{tasks_of}
 use Rattle.rules.specs.Numbers.{end_most}
 use Rattle.rules.specs.Refusals.{◌when◌, first_of, answering, lent}
@@ -14,16 +13,13 @@ use Rattle.rules.specs.Sheet.{Sheet, tasks, wrong, no_header, read_sheet, sheet_
 use Rattle.rules.specs.declared.Refusal.{Refusal}
 use Rattle.rules.specs.declared.Refusal.TheVariants.{BadEnd, TooShort, BadLine, NotMisses, NoHeader, BadRecord, NoRecord}
 use Rattle.rules.specs.declared.Verdict.{Verdict}
-use Rattle.rules.specs.declared.ReadAnswer.{ReadAnswer}
-use Rattle.rules.specs.declared.WriteAnswer.{WriteAnswer}
-use Rattle.rules.specs.declared.ScheduleAnswer.{ScheduleAnswer}
-use Rattle.rules.specs.declared.VerdictAnswer.{VerdictAnswer}
-use Rattle.rules.specs.declared.PatternAnswer.{PatternAnswer}
+use Rattle.std.specs.Prelude.{Option, Some, None, Result, Ok, Err}
+use Rattle.rules.specs.declared.Timing.{Timing}
 
 -- refusal 7, with the number of the first line missing or not as due
 abbrev pub line_refusal : Lines → Option Refusal
-line_refusal (took ws rest) = none
-line_refusal (stop l) = some (BadLine l)
+line_refusal (took ws rest) = None
+line_refusal (stop l) = Some (BadLine l)
 
 -- THE READER. Refusals 7, 6
 unfoldable pub read_refusal : List ℕ → List ℕ → Option Refusal
@@ -31,8 +27,8 @@ read_refusal text table =
     first_of (line_refusal (read_set text) ∷ (TooShort when ltb (length table) (length (words_read (read_set text)))) ∷ [])
 
 -- it answers the task count
-unfoldable pub read_answer : List ℕ → List ℕ → ReadAnswer
-read_answer text table = answering (read_refusal text table) ReadAnswer.Refused (ReadAnswer.Set (length (words_read (read_set text)) / 4))
+unfoldable pub read_answer : List ℕ → List ℕ → Result ℕ Refusal
+read_answer text table = answering (read_refusal text table) Err (Ok (length (words_read (read_set text)) / 4))
 
 -- writes the set's words to the start of the lent table
 unfoldable pub read_table : List ℕ → List ℕ → List ℕ
@@ -47,15 +43,15 @@ unfoldable pub make_refusal : (List ℕ → List ℕ) → List ℕ → List ℕ 
 make_refusal make table out = first_of (table_refusal table ∷ (TooShort when ltb (length out) (length (make table))) ∷ [])
 
 -- it answers their length
-unfoldable pub make_answer : (List ℕ → List ℕ) → List ℕ → List ℕ → WriteAnswer
-make_answer make table out = answering (make_refusal make table out) WriteAnswer.Refused (WriteAnswer.Written (length (make table)))
+unfoldable pub make_answer : (List ℕ → List ℕ) → List ℕ → List ℕ → Result ℕ Refusal
+make_answer make table out = answering (make_refusal make table out) Err (Ok (length (make table)))
 
 -- and writes them to the start of the lent buffer
 unfoldable pub make_buffer : (List ℕ → List ℕ) → List ℕ → List ℕ → List ℕ
 make_buffer make table out = lent (make_refusal make table out) (make table) out
 
 -- THE WRITER makes the text of a set
-abbrev pub write_answer : List ℕ → List ℕ → WriteAnswer
+abbrev pub write_answer : List ℕ → List ℕ → Result ℕ Refusal
 write_answer = make_answer write_set
 
 abbrev pub write_buffer : List ℕ → List ℕ → List ℕ
@@ -63,10 +59,10 @@ write_buffer = make_buffer write_set
 
 -- THE SHEET'S READER. Refusals 13, 14 with the number of the first record that is not as due, 15
 abbrev pub record_refusal : Sheet → Option Refusal
-record_refusal no_header = some NoHeader
-record_refusal (wrong l) = some (BadRecord l)
-record_refusal (tasks []) = some NoRecord
-record_refusal (tasks (w ∷ ws)) = none
+record_refusal no_header = Some NoHeader
+record_refusal (wrong l) = Some (BadRecord l)
+record_refusal (tasks []) = Some NoRecord
+record_refusal (tasks (w ∷ ws)) = None
 
 -- then 6
 unfoldable pub read_sheet_refusal : List ℕ → List ℕ → Option Refusal
@@ -74,16 +70,16 @@ read_sheet_refusal sheet table =
     first_of (record_refusal (read_sheet sheet) ∷ (TooShort when ltb (length table) (length (sheet_words (read_sheet sheet)))) ∷ [])
 
 -- it answers the task count
-unfoldable pub read_sheet_answer : List ℕ → List ℕ → ReadAnswer
+unfoldable pub read_sheet_answer : List ℕ → List ℕ → Result ℕ Refusal
 read_sheet_answer sheet table =
-    answering (read_sheet_refusal sheet table) ReadAnswer.Refused (ReadAnswer.Set (length (sheet_words (read_sheet sheet)) / 4))
+    answering (read_sheet_refusal sheet table) Err (Ok (length (sheet_words (read_sheet sheet)) / 4))
 
 -- and writes the tasks' words to the start of the lent table
 unfoldable pub read_sheet_table : List ℕ → List ℕ → List ℕ
 read_sheet_table sheet table = lent (read_sheet_refusal sheet table) (sheet_words (read_sheet sheet)) table
 
 -- THE SHEET'S WRITER makes a sheet
-abbrev pub write_sheet_answer : List ℕ → List ℕ → WriteAnswer
+abbrev pub write_sheet_answer : List ℕ → List ℕ → Result ℕ Refusal
 write_sheet_answer = make_answer write_sheet
 
 abbrev pub write_sheet_buffer : List ℕ → List ℕ → List ℕ
@@ -94,13 +90,13 @@ unfoldable pub dispatch_refusal : List Job → List ℕ → Option Refusal
 dispatch_refusal js out = TooShort when ltb (length out) (4 * length (dispatch js))
 
 -- on time with the row count; or late, with the task, number and deadline of the late job whose deadline is least
-abbrev pub timing : ℕ → Option Job → ScheduleAnswer
-timing n none = ScheduleAnswer.OnTime n
-timing n (some j) = ScheduleAnswer.Late n j.task j.number j.deadline
+abbrev pub timing : ℕ → Option Job → Timing
+timing n None = record { rows = n; late = None }
+timing n (Some j) = record { rows = n; late = Some (record { task = j.task; job = j.number; deadline = j.deadline }) }
 
 -- it answers that
-unfoldable pub dispatch_answer : List Job → List ℕ → ScheduleAnswer
-dispatch_answer js out = answering (dispatch_refusal js out) ScheduleAnswer.Refused (timing (length (dispatch js)) (late_job (dispatch js)))
+unfoldable pub dispatch_answer : List Job → List ℕ → Result Timing Refusal
+dispatch_answer js out = answering (dispatch_refusal js out) Err (Ok (timing (length (dispatch js)) (late_job (dispatch js))))
 
 -- and writes the rows to the start of the lent buffer
 unfoldable pub dispatch_buffer : List Job → List ℕ → List ℕ
@@ -120,18 +116,18 @@ schedule_refusal table z out =
     ∷ [])
 
 -- it answers as the dispatcher does
-unfoldable pub schedule_answer : List ℕ → ℕ → List ℕ → ScheduleAnswer
+unfoldable pub schedule_answer : List ℕ → ℕ → List ℕ → Result Timing Refusal
 schedule_answer table z out =
-    answering (schedule_refusal table z out) ScheduleAnswer.Refused
-    (timing (length (schedule_rows table z)) (late_job (schedule_rows table z)))
+    answering (schedule_refusal table z out) Err
+    (Ok (timing (length (schedule_rows table z)) (late_job (schedule_rows table z))))
 
 -- and writes the rows to the start of the lent buffer
 unfoldable pub schedule_buffer : List ℕ → ℕ → List ℕ → List ℕ
 schedule_buffer table z out = lent (schedule_refusal table z out) (row_words (schedule_rows table z)) out
 
 -- THE VERDICT. Refusals 1 to 4
-unfoldable pub verdict_answer : List ℕ → VerdictAnswer
-verdict_answer table = answering (table_refusal table) VerdictAnswer.Refused (VerdictAnswer.Judged (verdict (tasks_of table)))
+unfoldable pub verdict_answer : List ℕ → Result Verdict Refusal
+verdict_answer table = answering (table_refusal table) Err (Ok (verdict (tasks_of table)))
 
 -- THE PATTERN BEHIND A "MISSES"
 abbrev pub is_misses : Verdict → Bool
@@ -159,14 +155,13 @@ pattern_refusal table out =
     ∷ [])
 
 -- the row count in a dispatcher's answer
-abbrev pub rows_of : ScheduleAnswer → PatternAnswer
-rows_of (ScheduleAnswer.OnTime n) = PatternAnswer.Rows n
-rows_of (ScheduleAnswer.Late n k q d) = PatternAnswer.Rows n
-rows_of (ScheduleAnswer.Refused r) = PatternAnswer.Refused r
+abbrev pub rows_of : Result Timing Refusal → Result ℕ Refusal
+rows_of (Ok t) = Ok t.rows
+rows_of (Err r) = Err r
 
 -- it answers the row count
-unfoldable pub pattern_answer : List ℕ → List ℕ → PatternAnswer
-pattern_answer table out = answering (pattern_refusal table out) PatternAnswer.Refused (PatternAnswer.Rows (length (pattern_rows table)))
+unfoldable pub pattern_answer : List ℕ → List ℕ → Result ℕ Refusal
+pattern_answer table out = answering (pattern_refusal table out) Err (Ok (length (pattern_rows table)))
 
 -- and writes the rows to the start of the lent buffer
 unfoldable pub pattern_buffer : List ℕ → List ℕ → List ℕ
@@ -177,9 +172,9 @@ unfoldable pub first_refusal : List ℕ → Option Refusal
 first_refusal text = first_of (line_refusal (read_set text) ∷ table_refusal (words_read (read_set text)) ∷ [])
 
 -- what is said of it: that refusal, or the verdict
-unfoldable pub first_answer : List ℕ → VerdictAnswer
+unfoldable pub first_answer : List ℕ → Result Verdict Refusal
 first_answer text =
-    answering (first_refusal text) VerdictAnswer.Refused (VerdictAnswer.Judged (verdict (tasks_of (words_read (read_set text)))))
+    answering (first_refusal text) Err (Ok (verdict (tasks_of (words_read (read_set text)))))
 
 -- THE C CALL. One number: 100, 101 or 102 for the first set, or the refusal's
 unfoldable pub check_number : List ℕ → ℕ

@@ -1,8 +1,8 @@
 -- A search by a test.
 use Rattle.std.specs.Prelude.{ℕ, zero, suc, Bool, if◌then◌else◌}
-use Rattle.std.proofs.Math.Option.{Option, none, some}
+use Rattle.std.specs.Prelude.{Option, Some, None}
 
 -- the least of the n numbers from k on that passes the test
 unfoldable pub least : (ℕ → Bool) → ℕ → ℕ → Option ℕ
-least p zero k = none
-least p (suc n) k = let later = least p n (suc k) in if p k then some k else later
+least p zero k = None
+least p (suc n) k = let later = least p n (suc k) in if p k then Some k else later

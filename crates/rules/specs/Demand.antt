@@ -1,12 +1,11 @@
 -- The verdict over all arrivals. Document 01, "The verdict over all arrivals"; document 02, 3/14.
 use Rattle.std.specs.Prelude.{ℕ, suc, ◌+◌, ◌-◌, ◌*◌, ◌/◌, max, ◌≤◌, ◌<◌, List, [], ◌∷◌, Bool, ◌&&◌, leb, ltb, eqb, length, if◌then◌else◌}
-use Rattle.std.proofs.Math.Option.{Option, none, some}
 use Rattle.rules.specs.Choice.{least}
 use Rattle.rules.specs.Numbers.{horizon}
 use Rattle.rules.specs.Task.{task_at}
 use Rattle.rules.specs.declared.Task.{Task}
-use Rattle.rules.specs.declared.Blocker.{Blocker}
 use Rattle.rules.specs.declared.Verdict.{Verdict}
+use Rattle.std.specs.Prelude.{Option, Some, None}
 
 -- how many jobs a task has due within a length: 1 + the whole part of (L − D) / T where D is at most L
 unfoldable pub count_within : ℕ → Task → ℕ
@@ -65,8 +64,8 @@ first_waiting W L k [] = k
 first_waiting W L k (τ ∷ ts) = if ltb L τ.D && eqb (τ.C - 1) W then k else first_waiting W L (suc k) ts
 
 -- the blocker: the lowest-numbered task with the greatest C among those with D above L, if Wait(L) is above 0
-unfoldable pub blocker : ℕ → List Task → Blocker
-blocker L ts = if ltb 0 (longest_wait L ts) then Blocker.Task (first_waiting (longest_wait L ts) L 0 ts) else Blocker.Nobody
+unfoldable pub blocker : ℕ → List Task → Option ℕ
+blocker L ts = if ltb 0 (longest_wait L ts) then Some (first_waiting (longest_wait L ts) L 0 ts) else None
 
 -- the lowest-numbered task with the greatest C among those with D above L, in the paper's words
 pub record Blocks (L : ℕ) (ts : List Task) (b : ℕ) : Type 0 where
@@ -77,9 +76,9 @@ pub record Blocks (L : ℕ) (ts : List Task) (b : ℕ) : Type 0 where
 
 -- misses with the least L that fails, its blocker and its excess; else meets with the span; else too far
 abbrev pub judge : Option ℕ → Option ℕ → List Task → Verdict
-judge (some L) σ ts = Verdict.Misses L (blocker L ts) (excess L ts)
-judge none (some σ) ts = Verdict.Meets σ
-judge none none ts = Verdict.TooFar
+judge (Some L) σ ts = Verdict.Misses L (blocker L ts) (excess L ts)
+judge None (Some σ) ts = Verdict.Meets σ
+judge None None ts = Verdict.TooFar
 
 -- the verdict
 unfoldable pub verdict : List Task → Verdict

@@ -1,6 +1,6 @@
 -- The dispatcher: least deadline first, equal deadlines to the lower task, never preempted, never idle. Document 01, "Dispatch".
 use Rattle.std.specs.Prelude.{ℕ, zero, suc, ◌+◌, max, min, List, [], ◌∷◌, Bool, ◌&&◌, ◌||◌, leb, ltb, eqb, length, if◌then◌else◌}
-use Rattle.std.proofs.Math.Option.{Option, none, some}
+use Rattle.std.specs.Prelude.{Option, Some, None}
 
 -- a job: its task, its number within the task, its release, its deadline, its run time
 pub record Job : Type 0 where
@@ -29,12 +29,12 @@ before i j = ltb i.deadline j.deadline || (eqb i.deadline j.deadline && ltb i.ta
 
 -- of a job and perhaps another, the one that goes before
 unfoldable pub sooner : Job → Option Job → Option Job
-sooner j none = some j
-sooner j (some i) = if before i j then some i else some j
+sooner j None = Some j
+sooner j (Some i) = if before i j then Some i else Some j
 
 -- of the jobs released at or before tick s, the one that goes before the others
 unfoldable pub pick : ℕ → List Job → Option Job
-pick s [] = none
+pick s [] = None
 pick s (j ∷ js) = if leb j.release s then sooner j (pick s js) else pick s js
 
 -- the same job: the task and the number are equal
@@ -61,8 +61,8 @@ unfoldable pub rows : ℕ → ℕ → List Job → List Row
 rows zero t js = []
 rows (suc n) t js =
     elim (pick (ready t js) js) as (λ _. List Row) [
-      | none ↦ []
-      | some j ↦ record { job = j; start = ready t js } ∷ rows n (ready t js + j.run) (without j js)
+      | None ↦ []
+      | Some j ↦ record { job = j; start = ready t js } ∷ rows n (ready t js + j.run) (without j js)
     ]
 
 -- the rows of any finite list of jobs
@@ -71,7 +71,7 @@ dispatch js = rows (length js) 0 js
 
 -- the late job whose deadline is least, ties to the lower task
 unfoldable pub late_job : List Row → Option Job
-late_job [] = none
+late_job [] = None
 late_job (w ∷ ws) = if late w then sooner w.job (late_job ws) else late_job ws
 
 -- a row is four words: task, job number, start, finish

@@ -1,12 +1,11 @@
 -- Sets drawn from a seed, the first state. Document 02, 1/14.
 use Rattle.std.specs.Prelude.{◌≡◌, ℕ, zero, suc, ◌+◌, ◌*◌, ◌/◌, ◌%◌, min, List, [], ◌∷◌, ◌++◌, ltb, eqb, length, if◌then◌else◌}
-use Rattle.std.proofs.Math.Option.{Option}
 use Rattle.rules.specs.Refusals.{◌when◌, answering, lent}
 use Rattle.rules.specs.Text.{write_set}
 use Rattle.rules.specs.declared.Task.{Task}
 use Rattle.rules.specs.declared.Refusal.{Refusal}
 use Rattle.rules.specs.declared.Refusal.TheVariants.{TooShort}
-use Rattle.rules.specs.declared.ReadAnswer.{ReadAnswer}
+use Rattle.std.specs.Prelude.{Option, Result, Ok, Err}
 
 -- a draw replaces the state by 1,664,525 times the state plus 1,013,904,223; the product and the sum are taken modulo 4,294,967,296
 unfoldable pub next_state : ℕ → ℕ
@@ -85,8 +84,8 @@ unfoldable pub draw_refusal : ℕ → ℕ → List ℕ → Option Refusal
 draw_refusal s number table = TooShort when ltb (length table) (length (words_drawn number s))
 
 -- it answers the task count
-unfoldable pub draw_answer : ℕ → ℕ → List ℕ → ReadAnswer
-draw_answer s number table = answering (draw_refusal s number table) ReadAnswer.Refused (ReadAnswer.Set (length (set_drawn number s)))
+unfoldable pub draw_answer : ℕ → ℕ → List ℕ → Result ℕ Refusal
+draw_answer s number table = answering (draw_refusal s number table) Err (Ok (length (set_drawn number s)))
 
 -- moves the state on; refusing, it stays as it was before the set
 unfoldable pub draw_state : ℕ → ℕ → List ℕ → ℕ
@@ -97,7 +96,7 @@ unfoldable pub draw_table : ℕ → ℕ → List ℕ → List ℕ
 draw_table s number table = lent (draw_refusal s number table) (words_drawn number s) table
 
 -- its answer, the state after it and the lent table
-pub record DrawsSet (s number : ℕ) (table : List ℕ) (answer : ReadAnswer) (after : ℕ) (exit : List ℕ) : Type 0 where
+pub record DrawsSet (s number : ℕ) (table : List ℕ) (answer : Result ℕ Refusal) (after : ℕ) (exit : List ℕ) : Type 0 where
   pub says : answer ≡ draw_answer s number table
   pub moves : after ≡ draw_state s number table
   pub leaves : exit ≡ draw_table s number table

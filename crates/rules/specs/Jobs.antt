@@ -4,8 +4,8 @@ use Rattle.std.specs.Prelude.{◌≡◌, ℕ, zero, suc, ◌+◌, ◌-◌, ◌*�
 use Rattle.rules.specs.declared.Task.{Task}
 use Rattle.rules.specs.Dispatch.{Job}
 use Rattle.rules.specs.Demand.{count_within, blocker}
-use Rattle.rules.specs.declared.Blocker.{Blocker}
 use Rattle.rules.specs.declared.Plan.{Plan}
+use Rattle.std.specs.Prelude.{Option, Some, None}
 
 -- n jobs of task number k, the first being number q and released at r, each a period after the one before; all run for C
 unfoldable pub train : ℕ → ℕ → ℕ → ℕ → Task → List Job
@@ -39,9 +39,9 @@ concrete_train Z k τ = record { first = τ.R; count = count_before Z τ }
 
 -- the named pattern. With a blocker: it is released at 0, and each task with D at most L at 1, 1 + T .. while the deadline is at most L + 1;
 -- without one, each task with D at most L at 0, T .. while the deadline is at most L
-unfoldable pub named_train : ℕ → Blocker → ℕ → Task → Train
-named_train L (Blocker.Task b) k τ = if eqb k b then record { first = 0; count = 1 } else record { first = 1; count = count_within L τ }
-named_train L Blocker.Nobody k τ = record { first = 0; count = count_within L τ }
+unfoldable pub named_train : ℕ → Option ℕ → ℕ → Task → Train
+named_train L (Some b) k τ = if eqb k b then record { first = 0; count = 1 } else record { first = 1; count = count_within L τ }
+named_train L None k τ = record { first = 0; count = count_within L τ }
 
 -- the train of a task of number k under a plan
 abbrev pub plan_train : Plan → ℕ → Task → Train

@@ -1,21 +1,19 @@
 -- What the program prints. Document 01, "The program and the C call"; document 02, 3/14.
 use Rattle.std.specs.Prelude.{ℕ, zero, suc, List, [], ◌∷◌, ◌++◌, ltb, eqb, length, if◌then◌else◌}
-use Rattle.std.proofs.Math.Option.{Option}
 use Rattle.rules.specs.Numbers.{input_most}
 use Rattle.rules.specs.Refusals.{entry, carried_line, ◌when◌, answering, lent}
 use Rattle.rules.specs.Text.{bytes, digits, line, read_set, rest_read}
 use Rattle.rules.specs.Answers.{first_answer}
 use Rattle.rules.specs.declared.Refusal.{Refusal}
 use Rattle.rules.specs.declared.Refusal.TheVariants.{TooShort}
-use Rattle.rules.specs.declared.Blocker.{Blocker}
 use Rattle.rules.specs.declared.Verdict.{Verdict}
-use Rattle.rules.specs.declared.VerdictAnswer.{VerdictAnswer}
-use Rattle.rules.specs.declared.ReportAnswer.{ReportAnswer}
+use Rattle.std.specs.Prelude.{Option, Some, None, Result, Ok, Err}
+use Rattle.rules.specs.declared.Reported.{Reported}
 
 -- a task number or none
-abbrev pub blocker_word : Blocker → List ℕ
-blocker_word (Blocker.Task k) = digits k
-blocker_word Blocker.Nobody = bytes "none"
+abbrev pub blocker_word : Option ℕ → List ℕ
+blocker_word (Some k) = digits k
+blocker_word None = bytes "none"
 
 -- the lines of a verdict
 abbrev pub verdict_lines : Verdict → List ℕ
@@ -30,9 +28,9 @@ abbrev pub refusal_lines : Refusal → List ℕ
 refusal_lines r = line (bytes "refused=") (digits (entry r).number) ++ carried_line (entry r).carries
 
 -- the lines of an answer
-abbrev pub answer_lines : VerdictAnswer → List ℕ
-answer_lines (VerdictAnswer.Judged v) = verdict_lines v
-answer_lines (VerdictAnswer.Refused r) = refusal_lines r
+abbrev pub answer_lines : Result Verdict Refusal → List ℕ
+answer_lines (Ok v) = verdict_lines v
+answer_lines (Err r) = refusal_lines r
 
 -- the lines for the first set of a text, as set number n
 unfoldable pub set_lines : ℕ → List ℕ → List ℕ
@@ -47,9 +45,9 @@ unfoldable pub report_refusal : ℕ → List ℕ → List ℕ → Option Refusal
 report_refusal n text out = TooShort when ltb (length out) (length (set_lines n text))
 
 -- it answers the length of the lines, and how much is left to read
-unfoldable pub report_answer : ℕ → List ℕ → List ℕ → ReportAnswer
+unfoldable pub report_answer : ℕ → List ℕ → List ℕ → Result Reported Refusal
 report_answer n text out =
-    answering (report_refusal n text out) ReportAnswer.Refused (ReportAnswer.Reported (length (set_lines n text)) (length (set_rest text)))
+    answering (report_refusal n text out) Err (Ok (record { length = length (set_lines n text); left = length (set_rest text) }))
 
 -- and writes the lines to the start of the lent bytes
 unfoldable pub report_buffer : ℕ → List ℕ → List ℕ → List ℕ

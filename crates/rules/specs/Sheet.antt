@@ -1,8 +1,8 @@
 -- A sheet of comma-separated values, read and written. Document 02, 2/14: RFC 4180, by the decisions of docs/DECISIONS.md.
 use Rattle.std.specs.Prelude.{ℕ, zero, suc, ◌+◌, ◌-◌, ◌%◌, List, [], ◌∷◌, ◌++◌, Bool, true, false, ◌&&◌, ◌||◌, eqb, length, get_or, if◌then◌else◌}
-use Rattle.std.proofs.Math.Option.{Option, none, some}
 use Rattle.rules.specs.Numbers.{task_most}
 use Rattle.rules.specs.Text.{bytes, Read, got, bad, after_key, read_number, digits}
+use Rattle.std.specs.Prelude.{Option, Some, None}
 
 -- the marks that part a sheet: line feed, carriage return, quote, comma
 abbrev pub lf : ℕ
@@ -58,8 +58,8 @@ read_field (b ∷ s) = if eqb b quote then read_quoted s else read_plain (b ∷ 
 
 -- a record ends in CR LF, in a bare LF, or at the end of the sheet; the bytes after that
 unfoldable pub after_end : List ℕ → Option (List ℕ)
-after_end [] = some []
-after_end (b ∷ s) = if eqb b lf then some s else after_key crlf (b ∷ s)
+after_end [] = Some []
+after_end (b ∷ s) = if eqb b lf then Some s else after_key crlf (b ∷ s)
 
 -- the next field of a record, and the bytes after what follows it: after a comma, with more fields to come; or after the end of the record
 pub data Step : Type 0 where
@@ -69,8 +69,8 @@ pub data Step : Type 0 where
 
 -- the last field, where the record ends after it
 unfoldable pub last_of : List ℕ → Option (List ℕ) → Step
-last_of c (some s) = last c s
-last_of c none = no_step
+last_of c (Some s) = last c s
+last_of c None = no_step
 
 -- a field by what follows it
 unfoldable pub followed : Field → Step
@@ -116,9 +116,9 @@ name_of (suc (suc (suc k))) = bytes "release"
 
 -- nothing is left after a key
 abbrev pub none_left : Option (List ℕ) → Bool
-none_left (some []) = true
-none_left (some (b ∷ s)) = false
-none_left none = false
+none_left (Some []) = true
+none_left (Some (b ∷ s)) = false
+none_left None = false
 
 -- a content is a name, byte for byte
 unfoldable pub is_name : List ℕ → List ℕ → Bool
@@ -144,9 +144,9 @@ columns_of hs = column_from 1 (name_of 0) hs ∷ column_from 1 (name_of 1) hs �
 
 -- a number that was read is the whole of a field
 unfoldable pub whole : Read → Option ℕ
-whole (got v []) = some v
-whole (got v (b ∷ s)) = none
-whole bad = none
+whole (got v []) = Some v
+whole (got v (b ∷ s)) = None
+whole bad = None
 
 -- the number in a field, by the text's digit rule
 unfoldable pub field_number : List ℕ → Option ℕ
@@ -154,13 +154,13 @@ field_number c = whole (read_number c)
 
 -- a number before the others, where all are as due
 unfoldable pub also : Option ℕ → Option (List ℕ) → Option (List ℕ)
-also (some v) (some vs) = some (v ∷ vs)
-also (some v) none = none
-also none vs = none
+also (Some v) (Some vs) = Some (v ∷ vs)
+also (Some v) None = None
+also None vs = None
 
 -- the numbers in these columns of a record
 unfoldable pub numbers_in : List ℕ → List (List ℕ) → Option (List ℕ)
-numbers_in [] cs = some []
+numbers_in [] cs = Some []
 numbers_in (k ∷ ks) cs = also (field_number (get_or cs (k - 1) [])) (numbers_in ks cs)
 
 -- what a record gives as a task: its four words, and the bytes after the record; or it is not as due
@@ -170,8 +170,8 @@ pub data Row : Type 0 where
 
 -- the numbers as a task's words
 unfoldable pub row_of : Option (List ℕ) → List ℕ → Row
-row_of (some ws) s = row ws s
-row_of none s = no_row
+row_of (Some ws) s = row ws s
+row_of None s = no_row
 
 -- a task's record: as many fields as the header, and a number in each of the four columns
 unfoldable pub read_row : ℕ → List ℕ → Record → Row

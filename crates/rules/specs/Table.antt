@@ -1,12 +1,11 @@
 -- Which tables are refused. Document 01, "What the check covers" (ranges) and "Refusal numbers" 1 to 4.
 use Rattle.std.specs.Prelude.{◌≡◌, ℕ, zero, suc, ◌+◌, ◌*◌, ◌/◌, ◌%◌, ◌≤◌, ◌<◌, List, [], ◌∷◌, Bool, not, ◌&&◌, leb, ltb, eqb, length, get_or, if◌then◌else◌}
-use Rattle.std.proofs.Math.Option.{Option, none, some}
 use Rattle.rules.specs.Numbers.{task_most, table_most, word_most}
 use Rattle.rules.specs.declared.Task.{Task}
 use Rattle.rules.specs.Refusals.{◌when◌, first_of, answering}
 use Rattle.rules.specs.declared.Refusal.{Refusal}
 use Rattle.rules.specs.declared.Refusal.TheVariants.{NoWord, NotFours, TooManyWords, OutOfRange}
-use Rattle.rules.specs.declared.TableAnswer.{TableAnswer}
+use Rattle.std.specs.Prelude.{Option, Some, None, Result, Ok, Err}
 
 -- the least value of the word at an index: C, D and T are 1 or more, R may be 0
 unfoldable pub word_least : ℕ → ℕ
@@ -18,8 +17,8 @@ in_range i x = leb (word_least i) x && leb x word_most
 
 -- refusal 4, with the index of the first word out of its range, for the words from index i on
 unfoldable pub out_of_range : ℕ → List ℕ → Option Refusal
-out_of_range i [] = none
-out_of_range i (x ∷ xs) = if in_range i x then out_of_range (suc i) xs else some (OutOfRange i)
+out_of_range i [] = None
+out_of_range i (x ∷ xs) = if in_range i x then out_of_range (suc i) xs else Some (OutOfRange i)
 
 -- refusals 1, 2, 3, 4 of a table, in this order
 unfoldable pub table_refusal : List ℕ → Option Refusal
@@ -32,8 +31,8 @@ table_refusal w =
     ∷ [])
 
 -- whether a table is one
-unfoldable pub table_answer : List ℕ → TableAnswer
-table_answer w = answering (table_refusal w) TableAnswer.Refused TableAnswer.Fine
+unfoldable pub table_answer : List ℕ → Result (Unit {0}) Refusal
+table_answer w = answering (table_refusal w) Err (Ok tt)
 
 -- a word at an index is in its range: C, D and T are 1 to 65,535, R is 0 to 65,535
 pub record Ranged (i x : ℕ) : Type 0 where

@@ -2,8 +2,8 @@
 use Rattle.std.specs.Prelude.{ℕ, zero, suc, ◌+◌, ◌-◌, ◌*◌, ◌/◌, ◌%◌, List, [], ◌∷◌, ◌++◌, Bool, ◌&&◌, leb, ltb, eqb, length, if◌then◌else◌}
 use Prim.Native.Char.{code}
 use Prim.Native.String.{String}
-use Rattle.std.proofs.Math.Option.{Option, none, some}
 use Rattle.rules.specs.Numbers.{task_most}
+use Rattle.std.specs.Prelude.{Option, Some, None}
 
 -- the bytes of a text in plain letters
 abbrev pub bytes : String → List ℕ
@@ -28,9 +28,9 @@ pub data Read : Type 0 where
 
 -- the bytes after a key, if they begin with it
 unfoldable pub after_key : List ℕ → List ℕ → Option (List ℕ)
-after_key [] s = some s
-after_key (k ∷ ks) [] = none
-after_key (k ∷ ks) (b ∷ s) = if eqb b k then after_key ks s else none
+after_key [] s = Some s
+after_key (k ∷ ks) [] = None
+after_key (k ∷ ks) (b ∷ s) = if eqb b k then after_key ks s else None
 
 -- a decimal digit
 unfoldable pub digit : ℕ → Bool
@@ -55,8 +55,8 @@ line_end (got v (b ∷ s)) = if eqb b 10 then got v s else bad
 
 -- the number of a line, after its key
 unfoldable pub number_line : Option (List ℕ) → Read
-number_line none = bad
-number_line (some s) = line_end (read_number s)
+number_line None = bad
+number_line (Some s) = line_end (read_number s)
 
 -- a line: its key, a number, byte 10
 unfoldable pub read_line : List ℕ → List ℕ → Read

@@ -2,14 +2,11 @@
 use Rattle.std.specs.Prelude.{ℕ, List, [], ◌∷◌, ◌++◌, get_or}
 use Rattle.rules.specs.Refusals.{entry, carried_values}
 use Rattle.rules.specs.declared.Refusal.{Refusal}
-use Rattle.rules.specs.declared.Blocker.{Blocker}
 use Rattle.rules.specs.declared.Verdict.{Verdict}
-use Rattle.rules.specs.declared.ReadAnswer.{ReadAnswer}
-use Rattle.rules.specs.declared.WriteAnswer.{WriteAnswer}
-use Rattle.rules.specs.declared.ScheduleAnswer.{ScheduleAnswer}
-use Rattle.rules.specs.declared.VerdictAnswer.{VerdictAnswer}
-use Rattle.rules.specs.declared.PatternAnswer.{PatternAnswer}
-use Rattle.rules.specs.declared.ReportAnswer.{ReportAnswer}
+use Rattle.std.specs.Prelude.{Option, Some, None, Result, Ok, Err}
+use Rattle.rules.specs.declared.Late.{Late}
+use Rattle.rules.specs.declared.Timing.{Timing}
+use Rattle.rules.specs.declared.Reported.{Reported}
 
 -- a number with values
 infix 15 ◌with◌
@@ -32,26 +29,36 @@ value_told t = get_or (values_told t) 0 0
 abbrev pub refusal_told : Refusal → Told
 refusal_told r = (entry r).number with carried_values (entry r).carries
 
--- the reader: 0 with the task count
-abbrev pub read_told : ReadAnswer → Told
-read_told (ReadAnswer.Set n) = 0 with (n ∷ [])
-read_told (ReadAnswer.Refused r) = refusal_told r
+-- an answer that is a count: 0 with it
+abbrev pub count_told : Result ℕ Refusal → Told
+count_told (Ok n) = 0 with (n ∷ [])
+count_told (Err r) = refusal_told r
 
--- the writer: 0 with the length
-abbrev pub write_told : WriteAnswer → Told
-write_told (WriteAnswer.Written n) = 0 with (n ∷ [])
-write_told (WriteAnswer.Refused r) = refusal_told r
+-- the reader: the task count
+abbrev pub read_told : Result ℕ Refusal → Told
+read_told = count_told
 
--- the schedule: 200 on time with the row count; 201 late with the row count, and the task, job and deadline of the late job
-abbrev pub schedule_told : ScheduleAnswer → Told
-schedule_told (ScheduleAnswer.OnTime n) = 200 with (n ∷ [])
-schedule_told (ScheduleAnswer.Late n k q d) = 201 with (n ∷ k ∷ q ∷ d ∷ [])
-schedule_told (ScheduleAnswer.Refused r) = refusal_told r
+-- the writer: the length
+abbrev pub write_told : Result ℕ Refusal → Told
+write_told = count_told
+
+-- the rows: 200 on time with the row count; 201 late with the row count, and the task, job and deadline of the late job
+abbrev pub late_told : ℕ → Option Late → Told
+late_told n None = 200 with (n ∷ [])
+late_told n (Some j) = 201 with (n ∷ j.task ∷ j.job ∷ j.deadline ∷ [])
+
+abbrev pub timing_told : Timing → Told
+timing_told t = late_told t.rows t.late
+
+-- the schedule: that
+abbrev pub schedule_told : Result Timing Refusal → Told
+schedule_told (Ok t) = timing_told t
+schedule_told (Err r) = refusal_told r
 
 -- the value that a blocker carries: its task's number, or none
-abbrev pub blocker_values : Blocker → List ℕ
-blocker_values (Blocker.Task b) = b ∷ []
-blocker_values Blocker.Nobody = []
+abbrev pub blocker_values : Option ℕ → List ℕ
+blocker_values (Some b) = b ∷ []
+blocker_values None = []
 
 -- a verdict: 100 meets with the span; 101 misses with the length, the blocker and the excess; 102 too far with nothing
 abbrev pub judged_told : Verdict → Told
@@ -60,16 +67,15 @@ judged_told (Verdict.Misses L b over) = 101 with (L ∷ blocker_values b ++ (ove
 judged_told Verdict.TooFar = 102 with []
 
 -- the verdict call
-abbrev pub verdict_told : VerdictAnswer → Told
-verdict_told (VerdictAnswer.Judged v) = judged_told v
-verdict_told (VerdictAnswer.Refused r) = refusal_told r
+abbrev pub verdict_told : Result Verdict Refusal → Told
+verdict_told (Ok v) = judged_told v
+verdict_told (Err r) = refusal_told r
 
--- the pattern: 0 with the row count
-abbrev pub pattern_told : PatternAnswer → Told
-pattern_told (PatternAnswer.Rows n) = 0 with (n ∷ [])
-pattern_told (PatternAnswer.Refused r) = refusal_told r
+-- the pattern: the row count
+abbrev pub pattern_told : Result ℕ Refusal → Told
+pattern_told = count_told
 
 -- the report of one set: 0 with the length of its lines, and how many bytes are left to read
-abbrev pub report_told : ReportAnswer → Told
-report_told (ReportAnswer.Reported n left) = 0 with (n ∷ left ∷ [])
-report_told (ReportAnswer.Refused r) = refusal_told r
+abbrev pub report_told : Result Reported Refusal → Told
+report_told (Ok r) = 0 with (r.length ∷ r.left ∷ [])
+report_told (Err r) = refusal_told r

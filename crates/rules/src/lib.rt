@@ -1,4 +1,4 @@
-// What the calls take and answer, the keys of a text's lines, and the names of a sheet's columns. The documents as definitions over these types
+// What the calls take and answer, each `Ok` or refused, the keys of a text's lines, and the names of a sheet's columns. The documents as definitions over these types
 // stand in specs/.
 #![tactic(auto)]
 
@@ -29,12 +29,12 @@ pub struct Task {
     pub R: u32,
 }
 
-// Which trains the tasks of a table have: those of the concrete schedule to an end tick; or those of the pattern that a length names, with its
-// blocker.
+// Which trains the tasks of a table have: those of the concrete schedule to an end tick; or those of the pattern that a length names, with the
+// number of its blocker, if it has one.
 #[derive(Clone, Copy)]
 pub enum Plan {
     Concrete(u32),
-    Named(u32, Blocker),
+    Named(u32, Option<u32>),
 }
 
 // Why a call is refused; specs/Refusals.antt is the table of their numbers and of what they carry.
@@ -53,81 +53,40 @@ pub enum Refusal {
     NoRecord,
 }
 
-// What a refusal carries: nothing, the index of a word, or the number of a line or of a record.
+// What a refusal carries, if anything: the index of a word, or the number of a line or of a record.
 #[derive(Clone, Copy)]
 pub enum Carried {
-    Nothing,
     Word(u32),
     Line(u32),
     Record(u32),
 }
 
-// The task that holds the tile before a length that fails.
-#[derive(Clone, Copy)]
-pub enum Blocker {
-    Task(u32),
-    Nobody,
-}
-
-// The verdict over all arrivals: with the span; with the length, the blocker and the excess; with nothing.
+// The verdict over all arrivals: with the span; with the length, the number of the task that blocks, if one does, and the excess; with nothing.
 #[derive(Clone, Copy)]
 pub enum Verdict {
     Meets(u32),
-    Misses(u32, Blocker, u32),
+    Misses(u32, Option<u32>, u32),
     TooFar,
 }
 
-// Whether a table is one: refusals 1 to 4.
+// A late job: its task, its number and its deadline.
 #[derive(Clone, Copy)]
-pub enum TableAnswer {
-    Fine,
-    Refused(Refusal),
+pub struct Late {
+    pub task: u64,
+    pub job: u64,
+    pub deadline: u64,
 }
 
-// The answer of the reader, and of each call that fills a table: the task count.
+// What the dispatcher tells of its rows: how many there are, and the late job with the least deadline, if one is late.
 #[derive(Clone, Copy)]
-pub enum ReadAnswer {
-    Set(u32),
-    Refused(Refusal),
+pub struct Timing {
+    pub rows: u64,
+    pub late: Option<Late>,
 }
 
-// The writer's answer: the length of the text.
+// What the report tells of one set: how many bytes its lines take, and how many bytes of the text are left to read.
 #[derive(Clone, Copy)]
-pub enum WriteAnswer {
-    Written(u32),
-    Refused(Refusal),
-}
-
-// The schedule's answer: the row count, and of the late job with the least deadline its task, number and deadline.
-#[derive(Clone, Copy)]
-pub enum ScheduleAnswer {
-    OnTime(u64),
-    Late {
-        rows: u64,
-        task: u64,
-        job: u64,
-        deadline: u64,
-    },
-    Refused(Refusal),
-}
-
-// The verdict call's answer.
-#[derive(Clone, Copy)]
-pub enum VerdictAnswer {
-    Judged(Verdict),
-    Refused(Refusal),
-}
-
-// The pattern call's answer: the row count.
-#[derive(Clone, Copy)]
-pub enum PatternAnswer {
-    Rows(u64),
-    Refused(Refusal),
-}
-
-// The report's answer: how many bytes one set's lines take, and how many bytes of the text are left to read.
-#[derive(Clone, Copy)]
-pub enum ReportAnswer {
-    Reported { length: u32, left: usize },
-    Refused(Refusal),
+pub struct Reported {
+    pub length: u32,
+    pub left: usize,
 }

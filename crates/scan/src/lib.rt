@@ -9,7 +9,7 @@ ghost use Rattle.lines.specs.Line.{Finds};
 ghost use Rattle.scan.specs.Scanned.{Scans};
 
 use lines::Number;
-use rules::{ReadAnswer, Refusal, TASK_KEYS, TASKS_KEY};
+use rules::{Refusal, TASKS_KEY, TASK_KEYS};
 use table::{TABLE_MOST, TASK_MOST};
 
 // What a scan found: so many tasks, or the number of the first line that is not as due.
@@ -71,7 +71,7 @@ pub fn scan_set<'a>(text: &'a [u8], words: &mut [u32], rest: &mut &'a [u8]) -> S
 
 // The first set of a text: its words go to the start of table, the bytes after it to rest. A refusal changes neither, so the set is scanned into
 // a table of its own first.
-pub fn read_set<'a>(text: &'a [u8], table: &mut [u32], rest: &mut &'a [u8]) -> ReadAnswer
+pub fn read_set<'a>(text: &'a [u8], table: &mut [u32], rest: &mut &'a [u8]) -> Result<u32, Refusal>
     ensures { Reads text.now table.old result rest.new.now table.new }
 {
     *rest = text;
@@ -79,15 +79,15 @@ pub fn read_set<'a>(text: &'a [u8], table: &mut [u32], rest: &mut &'a [u8]) -> R
     let mut after = text;
     let scan = scan_set(text, &mut words, &mut after);
     match scan {
-        Scan::Stop(l) => ReadAnswer::Refused(Refusal::BadLine(l)),
+        Scan::Stop(l) => Err(Refusal::BadLine(l)),
         Scan::Whole(n) => {
             let m = 4 * n as usize;
             if table.len() < m {
-                return ReadAnswer::Refused(Refusal::TooShort);
+                return Err(Refusal::TooShort);
             }
             table::copy_words(&words, m, table);
             *rest = after;
-            ReadAnswer::Set(n)
+            Ok(n)
         }
     }
 }

@@ -9,36 +9,36 @@ ghost use Rattle.rules.specs.Calls.{ReadsSheet, WritesSheet};
 ghost use Rattle.print.specs.Place.{Puts};
 
 use kernel::Kernels;
-use rules::{ReadAnswer, Refusal, TableAnswer, WriteAnswer};
+use rules::{Refusal};
 use table::TABLE_MOST;
 
 // The first line of a sheet that is written.
 const FIRST_LINE: [u8; 35] = *b"execution,deadline,period,release\r\n";
 
 // THE SHEET'S READER. The tasks of a sheet go to the start of table; the answer is how many they are.
-pub fn read_sheet(text: &[u8], table: &mut [u32]) -> ReadAnswer
+pub fn read_sheet(text: &[u8], table: &mut [u32]) -> Result<u32, Refusal>
     ensures { ReadsSheet text.now table.old result table.new }
 {
     let mut columns = [0usize; 4];
     let mut after = text;
     let count = header::read_header(text, &mut columns, &mut after);
     if count == 0 {
-        return ReadAnswer::Refused(Refusal::NoHeader);
+        return Err(Refusal::NoHeader);
     }
     let mut words = [0u32; TABLE_MOST];
     let kernels = kernel::read_kernels(after, &columns, count, &mut words);
     match kernels {
-        Kernels::Wrong(l) => ReadAnswer::Refused(Refusal::BadRecord(l)),
+        Kernels::Wrong(l) => Err(Refusal::BadRecord(l)),
         Kernels::Whole(n) => {
             if n == 0 {
-                return ReadAnswer::Refused(Refusal::NoRecord);
+                return Err(Refusal::NoRecord);
             }
             let m = 4 * n;
             if table.len() < m {
-                return ReadAnswer::Refused(Refusal::TooShort);
+                return Err(Refusal::TooShort);
             }
             table::copy_words(&words, m, table);
-            ReadAnswer::Set(n as u32)
+            Ok(n as u32)
         }
     }
 }
@@ -94,17 +94,17 @@ fn put_sheet(table: &[u32], out: &mut [u8])
 }
 
 // THE SHEET'S WRITER. The sheet of a table goes to the start of out; the answer is its length.
-pub fn write_sheet(table: &[u32], out: &mut [u8]) -> WriteAnswer
+pub fn write_sheet(table: &[u32], out: &mut [u8]) -> Result<u32, Refusal>
     ensures { WritesSheet table.now out.old result out.new }
 {
     let checked = table::check_table(table);
-    if let TableAnswer::Refused(r) = checked {
-        return WriteAnswer::Refused(r);
+    if let Err(r) = checked {
+        return Err(r);
     }
     let total = sheet_length(table);
     if out.len() < total {
-        return WriteAnswer::Refused(Refusal::TooShort);
+        return Err(Refusal::TooShort);
     }
     put_sheet(table, out);
-    WriteAnswer::Written(total as u32)
+    Ok(total as u32)
 }

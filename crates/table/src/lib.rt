@@ -6,7 +6,7 @@ ghost use Rattle.rules.specs.Numbers.{table_most};
 ghost use Rattle.rules.specs.Refusals.{answering};
 ghost use Rattle.rules.specs.Table.{word_least, in_range, out_of_range, table_answer, task_in};
 
-use rules::{Refusal, TableAnswer, Task};
+use rules::{Refusal, Task};
 
 // The most tasks, the most words of a table, and the greatest value of a word.
 pub const TASK_MOST: usize = 64;
@@ -53,34 +53,34 @@ fn in_range(i: usize, x: u32) -> bool
 }
 
 // Refusal 4, with the index of the first word out of its range.
-fn check_words(table: &[u32]) -> TableAnswer
+fn check_words(table: &[u32]) -> Result<(), Refusal>
     requires { length table.now ≤ table_most }
-    ensures { result ≡ answering (out_of_range 0 table.now) TableAnswer.Refused TableAnswer.Fine }
+    ensures { result ≡ answering (out_of_range 0 table.now) Err (Ok tt) }
 {
     let mut i: usize = 0;
     while i < table.len() {
         let fits = in_range(i, table[i]);
         if !fits {
-            return TableAnswer::Refused(Refusal::OutOfRange(i as u32));
+            return Err(Refusal::OutOfRange(i as u32));
         }
         i += 1;
     }
-    TableAnswer::Fine
+    Ok(())
 }
 
 // Whether a table is one: refusals 1, 2, 3, 4, in this order.
-pub fn check_table(table: &[u32]) -> TableAnswer
+pub fn check_table(table: &[u32]) -> Result<(), Refusal>
     ensures { result ≡ table_answer table.now }
 {
     let n = table.len();
     if n == 0 {
-        return TableAnswer::Refused(Refusal::NoWord);
+        return Err(Refusal::NoWord);
     }
     if n % 4 != 0 {
-        return TableAnswer::Refused(Refusal::NotFours);
+        return Err(Refusal::NotFours);
     }
     if n > TABLE_MOST {
-        return TableAnswer::Refused(Refusal::TooManyWords);
+        return Err(Refusal::TooManyWords);
     }
     check_words(table)
 }

@@ -4,7 +4,7 @@
 ghost use Rattle.std.specs.Prelude.{◌+◌, ◌*◌, ◌^◌, ◌≤◌, length};
 ghost use Rattle.texts.specs.Texts.{text_most, PutsSet, PutsSets};
 
-use rules::{ReadAnswer, WriteAnswer};
+
 
 // The most bytes of a set's text: 8 for the line of the count, and 8 for each of at most 32 words.
 pub const TEXT_MOST: usize = 264;
@@ -17,13 +17,13 @@ fn put_set(state: &mut u32, number: u32, out: &mut [u8]) -> usize
     let mut table = [0u32; 32];
     let drawn = draws::draw_set_from(state, number, &mut table);
     // A set has at most 8 tasks, so that no draw is refused.
-    let ReadAnswer::Set(n) = drawn else {
+    let Ok(n) = drawn else {
         return 0;
     };
     let words = 4 * (n as usize);
     let written = writer::write(&table[..words], out);
     // A set drawn is a table, and there is room for its text, so that no text is refused.
-    let WriteAnswer::Written(length) = written else {
+    let Ok(length) = written else {
         return 0;
     };
     length as usize

@@ -2,12 +2,11 @@
 use Rattle.std.specs.Prelude.{ℕ, [], ◌∷◌, ◌++◌}
 use Rattle.rules.specs.Refusals.{number_of}
 use Rattle.rules.specs.Told.{Told, ◌with◌, number_told, values_told, read_told, judged_told, verdict_told}
-use Rattle.rules.specs.declared.Blocker.{Blocker}
 use Rattle.rules.specs.declared.Verdict.{Verdict}
-use Rattle.rules.specs.declared.ReadAnswer.{ReadAnswer}
-use Rattle.rules.specs.declared.VerdictAnswer.{VerdictAnswer}
 use Rattle.told.specs.declared.Saying.{Saying}
 use Rattle.told.specs.declared.Saying.TheVariants.{Bare, One, Two, Three, Four}
+use Rattle.std.specs.Prelude.{Option, Some, None, Result, Ok, Err}
+use Rattle.rules.specs.declared.Refusal.{Refusal}
 
 -- a number with no to four values
 abbrev pub said : Saying → Told
@@ -23,31 +22,31 @@ abbrev pub ◌also◌ : Told → ℕ → Told
 t also v = number_told t with (values_told t ++ (v ∷ []))
 
 -- the reader: the bytes used, beside the task count
-abbrev pub read_probed : ReadAnswer → ℕ → Told
-read_probed (ReadAnswer.Set n) used = read_told (ReadAnswer.Set n) also used
-read_probed (ReadAnswer.Refused r) used = read_told (ReadAnswer.Refused r)
+abbrev pub read_probed : Result ℕ Refusal → ℕ → Told
+read_probed (Ok n) used = read_told (Ok n) also used
+read_probed (Err r) used = read_told (Err r)
 
 -- the value for a blocker: its task's number, 2^64 - 1 where there is none
-abbrev pub blocker_probed : Blocker → ℕ
-blocker_probed (Blocker.Task b) = b
-blocker_probed Blocker.Nobody = 18446744073709551615
+abbrev pub blocker_probed : Option ℕ → ℕ
+blocker_probed (Some b) = b
+blocker_probed None = 18446744073709551615
 
 -- a "misses": told as if by the task of that value
-abbrev pub misses_probed : ℕ → Blocker → ℕ → Told
-misses_probed L b over = judged_told (Verdict.Misses L (Blocker.Task (blocker_probed b)) over)
+abbrev pub misses_probed : ℕ → Option ℕ → ℕ → Told
+misses_probed L b over = judged_told (Verdict.Misses L (Some (blocker_probed b)) over)
 
 -- the verdict call
-abbrev pub verdict_probed : VerdictAnswer → Told
-verdict_probed (VerdictAnswer.Judged (Verdict.Meets σ)) = judged_told (Verdict.Meets σ)
-verdict_probed (VerdictAnswer.Judged (Verdict.Misses L b over)) = misses_probed L b over
-verdict_probed (VerdictAnswer.Judged Verdict.TooFar) = judged_told Verdict.TooFar
-verdict_probed (VerdictAnswer.Refused r) = verdict_told (VerdictAnswer.Refused r)
+abbrev pub verdict_probed : Result Verdict Refusal → Told
+verdict_probed (Ok (Verdict.Meets σ)) = judged_told (Verdict.Meets σ)
+verdict_probed (Ok (Verdict.Misses L b over)) = misses_probed L b over
+verdict_probed (Ok Verdict.TooFar) = judged_told Verdict.TooFar
+verdict_probed (Err r) = verdict_told (Err r)
 
 -- a draw: the number drawn, and the state after it
 abbrev pub draw_probed : ℕ → ℕ → Told
 draw_probed n after = 0 with (n ∷ after ∷ [])
 
 -- a set drawn: the state after it, beside the task count; of a refusal its number, and the state
-abbrev pub set_probed : ReadAnswer → ℕ → Told
-set_probed (ReadAnswer.Set n) after = read_told (ReadAnswer.Set n) also after
-set_probed (ReadAnswer.Refused r) after = number_of r with (after ∷ [])
+abbrev pub set_probed : Result ℕ Refusal → ℕ → Told
+set_probed (Ok n) after = read_told (Ok n) also after
+set_probed (Err r) after = number_of r with (after ∷ [])

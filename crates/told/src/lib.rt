@@ -5,10 +5,7 @@ ghost use Rattle.std.specs.Prelude.{◌≡◌};
 ghost use Rattle.rules.specs.Told.{refusal_told, read_told, write_told, schedule_told, pattern_told};
 ghost use Rattle.told.specs.Sayings.{said, read_probed, blocker_probed, misses_probed, verdict_probed, draw_probed, set_probed};
 
-use rules::{
-    Blocker, Carried, PatternAnswer, ReadAnswer, Refusal, ScheduleAnswer, Verdict, VerdictAnswer,
-    WriteAnswer,
-};
+use rules::{Carried, Refusal, Timing, Verdict};
 
 // A number with no to four values.
 #[derive(Clone, Copy)]
@@ -30,7 +27,7 @@ fn say_refusal(r: Refusal) -> Saying
     let number = numbers::refusal_number(r);
     let carried = numbers::refusal_carries(r);
     match carried {
-        Carried::Nothing => Saying::Bare(number),
+        None => Saying::Bare(number),
         Carried::Word(i) => Saying::One(number, i as u64),
         Carried::Line(l) => Saying::One(number, l as u64),
         Carried::Record(l) => Saying::One(number, l as u64),
@@ -38,37 +35,37 @@ fn say_refusal(r: Refusal) -> Saying
 }
 
 // The reader's answer, and the bytes used.
-pub fn say_read(answer: ReadAnswer, used: u64) -> Saying
+pub fn say_read(answer: Result<u32, Refusal>, used: u64) -> Saying
     ensures { said result ≡ read_probed answer used }
 {
     match answer {
-        ReadAnswer::Set(n) => Saying::Two(0, n as u64, used),
-        ReadAnswer::Refused(r) => say_refusal(r),
+        Ok(n) => Saying::Two(0, n as u64, used),
+        Err(r) => say_refusal(r),
     }
 }
 
 // The writer's answer.
-pub fn say_write(answer: WriteAnswer) -> Saying
+pub fn say_write(answer: Result<u32, Refusal>) -> Saying
     ensures { said result ≡ write_told answer }
 {
     match answer {
-        WriteAnswer::Written(n) => Saying::One(0, n as u64),
-        WriteAnswer::Refused(r) => say_refusal(r),
+        Ok(n) => Saying::One(0, n as u64),
+        Err(r) => say_refusal(r),
     }
 }
 
 // The answer of the sheet's reader.
-pub fn say_sheet(answer: ReadAnswer) -> Saying
+pub fn say_sheet(answer: Result<u32, Refusal>) -> Saying
     ensures { said result ≡ read_told answer }
 {
     match answer {
-        ReadAnswer::Set(n) => Saying::One(0, n as u64),
-        ReadAnswer::Refused(r) => say_refusal(r),
+        Ok(n) => Saying::One(0, n as u64),
+        Err(r) => say_refusal(r),
     }
 }
 
 // The schedule's answer.
-pub fn say_schedule(answer: ScheduleAnswer) -> Saying
+pub fn say_schedule(answer: Result<Timing, Refusal>) -> Saying
     ensures { said result ≡ schedule_told answer }
 {
     match answer {
@@ -79,22 +76,22 @@ pub fn say_schedule(answer: ScheduleAnswer) -> Saying
             job,
             deadline,
         } => Saying::Four(201, rows, task, job, deadline),
-        ScheduleAnswer::Refused(r) => say_refusal(r),
+        Err(r) => say_refusal(r),
     }
 }
 
 // A blocker's value.
-fn blocker_value(blocker: Blocker) -> u64
+fn blocker_value(blocker: Option<u32>) -> u64
     ensures { result ≡ blocker_probed blocker }
 {
     match blocker {
-        Blocker::Task(b) => b as u64,
-        Blocker::Nobody => NOBODY,
+        Some(b) => b as u64,
+        None => NOBODY,
     }
 }
 
 // A "misses".
-fn say_misses(length: u32, blocker: Blocker, over: u32) -> Saying
+fn say_misses(length: u32, blocker: Option<u32>, over: u32) -> Saying
     ensures { said result ≡ misses_probed length blocker over }
 {
     let value = blocker_value(blocker);
@@ -103,7 +100,7 @@ fn say_misses(length: u32, blocker: Blocker, over: u32) -> Saying
 
 // A verdict.
 fn say_judged(verdict: Verdict) -> Saying
-    ensures { said result ≡ verdict_probed (VerdictAnswer.Judged verdict) }
+    ensures { said result ≡ verdict_probed (Ok verdict) }
 {
     match verdict {
         Verdict::Meets(span) => Saying::One(100, span as u64),
@@ -113,22 +110,22 @@ fn say_judged(verdict: Verdict) -> Saying
 }
 
 // The verdict call's answer.
-pub fn say_verdict(answer: VerdictAnswer) -> Saying
+pub fn say_verdict(answer: Result<Verdict, Refusal>) -> Saying
     ensures { said result ≡ verdict_probed answer }
 {
     match answer {
-        VerdictAnswer::Judged(v) => say_judged(v),
-        VerdictAnswer::Refused(r) => say_refusal(r),
+        Ok(v) => say_judged(v),
+        Err(r) => say_refusal(r),
     }
 }
 
 // The pattern's answer.
-pub fn say_pattern(answer: PatternAnswer) -> Saying
+pub fn say_pattern(answer: Result<u64, Refusal>) -> Saying
     ensures { said result ≡ pattern_told answer }
 {
     match answer {
-        PatternAnswer::Rows(n) => Saying::One(0, n),
-        PatternAnswer::Refused(r) => say_refusal(r),
+        Ok(n) => Saying::One(0, n),
+        Err(r) => say_refusal(r),
     }
 }
 
@@ -140,11 +137,11 @@ pub fn say_drawn(number: u32, after: u32) -> Saying
 }
 
 // A set drawn, and the state after it.
-pub fn say_set(answer: ReadAnswer, after: u32) -> Saying
+pub fn say_set(answer: Result<u32, Refusal>, after: u32) -> Saying
     ensures { said result ≡ set_probed answer after }
 {
     match answer {
-        ReadAnswer::Set(n) => Saying::Two(0, n as u64, after as u64),
-        ReadAnswer::Refused(r) => Saying::One(numbers::refusal_number(r), after as u64),
+        Ok(n) => Saying::Two(0, n as u64, after as u64),
+        Err(r) => Saying::One(numbers::refusal_number(r), after as u64),
     }
 }

@@ -8,7 +8,7 @@ ghost use Rattle.rules.specs.Jobs.{count_before, named_train, plan_train};
 ghost use Rattle.trains.specs.Releases.{Comes, ComesOnce, released_before, due_within};
 
 use arith::wide;
-use rules::{Blocker, Plan, Task};
+use rules::{Plan, Task};
 
 // When a job is released, if the train has it.
 #[derive(Clone, Copy)]
@@ -42,11 +42,11 @@ pub fn count_within(task: Task, length: u32) -> u32
 }
 
 // How many jobs task k has in the pattern that a length names: a blocker comes once.
-fn named_count(length: u32, blocker: Blocker, k: usize, task: Task) -> u32
+fn named_count(length: u32, blocker: Option<u32>, k: usize, task: Task) -> u32
     requires { Sound task }
     ensures { result ≡ (named_train length blocker k task).count }
 {
-    let Blocker::Task(b) = blocker else {
+    let Some(b) = blocker else {
         return count_within(task, length);
     };
     if k == b as usize {
@@ -112,11 +112,11 @@ fn release_once(q: u32) -> Release
 
 // When job q of task k is released in the pattern that a length names: a blocker comes once, at 0, and the others from 1 on; without one all come
 // from 0 on.
-fn named_release(length: u32, blocker: Blocker, k: usize, task: Task, q: u32) -> Release
+fn named_release(length: u32, blocker: Option<u32>, k: usize, task: Task, q: u32) -> Release
     requires { Sound task }
     ensures { Comes (named_train length blocker k task) task.T q result }
 {
-    let Blocker::Task(b) = blocker else {
+    let Some(b) = blocker else {
         return release_within(task, length, 0, q);
     };
     if k == b as usize {

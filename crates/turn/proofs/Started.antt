@@ -5,7 +5,6 @@ use native.Mathlib.Nat.{suc-mul}
 use native.Mathlib.Numerals.{add-one}
 use native.Mathlib.Omega.{arith}
 use mathlib.Core.List.{List, ◌∷◌, ◌++◌}
-use mathlib.Core.Option.{some}
 use lib.ListN.{length, get_or, set}
 use lib.Seq.{get_or-set_same, get_or-set_other}
 use Rattle.rules.specs.Dispatch.{Job, Row, pick, without, ready, rows}
@@ -16,6 +15,7 @@ use Rattle.rules.proofs.Booleans.{split}
 use Rattle.rules.proofs.Choosing.{without_train, without_head, rows_step, one_less}
 use Rattle.turn.specs.declared.Turn.{Turn}
 use Rattle.turn.specs.Counters.{train_at, release_at, job_at, jobs_at, rest_from, Chosen}
+use Rattle.std.specs.Prelude.{Some}
 
 -- the numbers after a turn of task b
 abbrev pub moved : List ℕ → ℕ → List ℕ
@@ -70,7 +70,7 @@ module _ (w : List ℕ) (p : Plan) where
       let js : List Job = rest_from w p nx m 0 in
       let e : m - 0 ≡ m = omega arith in
       let er : ready t js ≡ x.start = ap (λ (n : ℕ). ready t (rest_from w p nx n 0)) (sym e) ∙ ch.starts in
-      let ep : pick x.start js ≡ some (row_of w p nx x).job = ap (λ (n : ℕ). pick x.start (rest_from w p nx n 0)) (sym e) ∙ ch.picked in
+      let ep : pick x.start js ≡ Some (row_of w p nx x).job = ap (λ (n : ℕ). pick x.start (rest_from w p nx n 0)) (sym e) ∙ ch.picked in
       let ew : without (row_of w p nx x).job js ≡ rest_from w p (moved nx x.task) m 0 =
       without_next nx x.task (omega (arith, ch.is_task)) ch.live m 0 (omega arith) (omega (arith, ch.is_task))
       in

@@ -3,7 +3,6 @@ use mathlib.Core.Path.{◌≡◌, sym, ap, subst, ◌∙◌}
 use Prim.Native.Nat.{ℕ, suc, ◌+◌, ◌-◌, ◌^◌, ◌≤◌, ◌<◌, max}
 use native.Mathlib.Omega.{arith}
 use mathlib.Core.List.{List, [], ◌∷◌, ◌++◌}
-use mathlib.Core.Option.{some}
 use lib.ListN.{length, get_or}
 use Rattle.rules.specs.Dispatch.{Job, sooner, pick, ready}
 use Rattle.rules.specs.Jobs.{train}
@@ -15,6 +14,7 @@ use Rattle.rules.proofs.Choosing.{pick_come, pick_not, pick_one, pick_nobody, no
 use Rattle.trains.specs.Releases.{Coming}
 use Rattle.turn.specs.declared.Turn.{Turn}
 use Rattle.turn.specs.Counters.{train_at, release_at, job_at, jobs_at, rest_from, Chosen, Best, nobody, somebody}
+use Rattle.std.specs.Prelude.{Some}
 
 -- the next job of task i: released at r, it could start at a, and is due v after its release
 pub record Offer (w : List ℕ) (p : Plan) (nx : List ℕ) (t m i r a v : ℕ) : Type 0 where
@@ -70,7 +70,7 @@ module _ (w : List ℕ) (p : Plan) (nx : List ℕ) (t m : ℕ) where
   best_none x e = nobody rest_none e
 
   -- the job found so far is found of the tasks from i on too
-  kept : (i : ℕ) (x : Turn) → Chosen w p nx t m (i + 1) x → ready t (rest i) ≡ x.start → pick x.start (rest i) ≡ some (head x.task) → Best w p nx t m i x
+  kept : (i : ℕ) (x : Turn) → Chosen w p nx t m (i + 1) x → ready t (rest i) ≡ x.start → pick x.start (rest i) ≡ Some (head x.task) → Best w p nx t m i x
   kept i x ch starts picked =
       somebody
       (record {
@@ -91,7 +91,7 @@ module _ (w : List ℕ) (p : Plan) (nx : List ℕ) (t m : ℕ) where
 
   -- it has one
   module _ (i r a v : ℕ) (x : Turn) (O : Offer w p nx t m i r a v) where
-    new : ready t (head i ∷ rest (i + 1)) ≡ a → pick a (head i ∷ rest (i + 1)) ≡ some (head i)
+    new : ready t (head i ∷ rest (i + 1)) ≡ a → pick a (head i ∷ rest (i + 1)) ≡ Some (head i)
         → Best w p nx t m i (record { task = i; start = a; due = r + v })
     new es ep =
         somebody

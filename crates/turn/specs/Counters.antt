@@ -1,12 +1,12 @@
 -- The number of the next job of each task, and what it stands for: the jobs that are not started, and the one that starts next.
 use Rattle.std.specs.Prelude.{◌≡◌, ℕ, zero, suc, ◌+◌, ◌-◌, ◌*◌, ◌^◌, max, ◌≤◌, ◌<◌, List, [], ◌++◌, get_or, replicate}
-use Rattle.std.proofs.Math.Option.{some}
 use Rattle.rules.specs.Numbers.{task_most}
 use Rattle.rules.specs.Dispatch.{Job, pick, ready}
 use Rattle.rules.specs.Jobs.{Train, train, plan_train}
 use Rattle.rules.specs.Table.{task_in}
 use Rattle.rules.specs.declared.Plan.{Plan}
 use Rattle.turn.specs.declared.Turn.{Turn}
+use Rattle.std.specs.Prelude.{Some}
 
 -- the train of task i of a table
 abbrev pub train_at : List ℕ → Plan → ℕ → Train
@@ -49,7 +49,7 @@ pub record Chosen (w : List ℕ) (p : Plan) (nx : List ℕ) (t m i : ℕ) (x : T
   pub soon : x.start ≤ max t (2 ^ 33)
   pub starts : ready t (rest_from w p nx (m - i) i) ≡ x.start
   pub due_then : x.due ≡ (job_at w p x.task (get_or nx x.task 0)).deadline
-  pub picked : pick x.start (rest_from w p nx (m - i) i) ≡ some (job_at w p x.task (get_or nx x.task 0))
+  pub picked : pick x.start (rest_from w p nx (m - i) i) ≡ Some (job_at w p x.task (get_or nx x.task 0))
 
 -- what the walk over the tasks has found from i on: no job, and a start that none has, or the next job
 pub data Best (w : List ℕ) (p : Plan) (nx : List ℕ) (t m i : ℕ) (x : Turn) : Type 0 where

@@ -11,7 +11,7 @@ ghost use Rattle.verdict.specs.Searches.{FirstFail, found_at};
 
 use arith::wide;
 use demand::{blocker_at, excess_at, work_at};
-use rules::{TableAnswer, Verdict, VerdictAnswer};
+use rules::{Refusal, Verdict};
 use table::check_table;
 
 // The longest length looked at, and the greatest span.
@@ -82,13 +82,13 @@ pub fn judge_table(table: &[u32]) -> Verdict
 }
 
 // The verdict on any table: the paper's, and true of every arrival pattern.
-pub fn verdict(table: &[u32]) -> VerdictAnswer
+pub fn verdict(table: &[u32]) -> Result<Verdict, Refusal>
     ensures says { result ≡ verdict_answer table.now }
     ensures keeps { KeptBy table.now result }
 {
     let answer = check_table(table);
     match answer {
-        TableAnswer::Fine => VerdictAnswer::Judged(judge_table(table)),
-        TableAnswer::Refused(why) => VerdictAnswer::Refused(why),
+        Ok(()) => Ok(judge_table(table)),
+        Err(why) => Err(why),
     }
 }

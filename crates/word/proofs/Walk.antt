@@ -7,7 +7,6 @@ use native.Mathlib.Numerals.{add-one}
 use native.Mathlib.Omega.{arith}
 use mathlib.Core.List.{List, [], ◌∷◌}
 use mathlib.Core.Bool.{Bool, true, false}
-use mathlib.Core.Option.{none}
 use lib.ListN.{length, drop, get_or, drop_of_length-le}
 use lib.Seq.{drop-cons}
 use borrow.Author.Tests.{le-leb, lt-leb}
@@ -15,6 +14,7 @@ use Rattle.rules.specs.Text.{digit}
 use Rattle.rules.proofs.ReadSteps.{empty, first_of}
 use Rattle.word.specs.Word.{value_from, judged, number_in}
 use Rattle.word.specs.declared.Decimal.TheVariants.{Number, Wrong}
+use Rattle.std.specs.Prelude.{None}
 
 -- a value above the greatest stays wrong, whatever follows
 great : (most v : ℕ) (s : List ℕ) → most < v → judged most (value_from v s) ≡ Wrong
@@ -22,7 +22,7 @@ unfolding judged value_from
 great most v [] h = rw (lt-leb v most h)
 great most v (b ∷ s) h = go (digit b) (great most (v * 10 + (b - 48)) s (omega arith))
   where
-    go : (d : Bool) → judged most (value_from (v * 10 + (b - 48)) s) ≡ Wrong → judged most (if d then value_from (v * 10 + (b - 48)) s else none) ≡ Wrong
+    go : (d : Bool) → judged most (value_from (v * 10 + (b - 48)) s) ≡ Wrong → judged most (if d then value_from (v * 10 + (b - 48)) s else None) ≡ Wrong
     go true ih = ih
     go false ih = refl
 

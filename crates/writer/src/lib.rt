@@ -7,7 +7,7 @@ ghost use Rattle.rules.specs.Text.{key_of, digits, line, write_set};
 ghost use Rattle.rules.specs.Calls.{Writes};
 ghost use Rattle.print.specs.Place.{Puts};
 
-use rules::{Refusal, TASK_KEYS, TASKS_KEY, TableAnswer, WriteAnswer};
+use rules::{Refusal, TASKS_KEY, TASK_KEYS};
 
 // One of a task's four lines is put at a place.
 fn put_task_line(out: &mut [u8], at: usize, which: usize, n: u32) -> usize
@@ -45,17 +45,17 @@ fn put_set(table: &[u32], out: &mut [u8])
 }
 
 // THE WRITER. The text of a table goes to the start of out; the answer is its length.
-pub fn write(table: &[u32], out: &mut [u8]) -> WriteAnswer
+pub fn write(table: &[u32], out: &mut [u8]) -> Result<u32, Refusal>
     ensures { Writes table.now out.old result out.new }
 {
     let checked = table::check_table(table);
-    if let TableAnswer::Refused(r) = checked {
-        return WriteAnswer::Refused(r);
+    if let Err(r) = checked {
+        return Err(r);
     }
     let total = text_length(table);
     if out.len() < total {
-        return WriteAnswer::Refused(Refusal::TooShort);
+        return Err(Refusal::TooShort);
     }
     put_set(table, out);
-    WriteAnswer::Written(total as u32)
+    Ok(total as u32)
 }

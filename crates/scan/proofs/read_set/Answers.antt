@@ -3,7 +3,6 @@
 use Rattle.std.proofs.Common.{◌≡◌, ℕ, ◌*◌, ◌/◌, ◌≤◌, ◌++◌, length, take, drop, sym, ap, ◌∙◌, arith}
 use Rattle.std.proofs.Math.Seq.{length-take-le}
 use Rattle.rules.specs.Numbers.{task_most}
-use Rattle.rules.specs.declared.ReadAnswer.TheVariants.{Set}
 use Rattle.rules.proofs.Calls as calls
 use Rattle.scan.proofs.read_set.Goals as goal
 

@@ -2,7 +2,6 @@
 -- too short for the words (6), or they are copied.
 use Rattle.std.proofs.Common.{◌≡◌, ℕ, ◌*◌, ◌/◌, ◌++◌, length, take, drop, refl, sym, ap, ◌∙◌, arith}
 use Rattle.rules.specs.Sheet.{tasks}
-use Rattle.rules.specs.declared.ReadAnswer.TheVariants.{Set}
 use Rattle.rules.proofs.SheetReading.{sheet_headless, sheet_stops, sheet_empty, sheet_short, sheet_set}
 use Rattle.sheet.proofs.Headed.{headless, within, sheet_says, words_long}
 use Rattle.sheet.proofs.read_sheet.Goals as goal

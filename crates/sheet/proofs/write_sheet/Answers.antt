@@ -1,9 +1,9 @@
 -- `write_sheet` refuses a table, finds its buffer shorter than the sheet, or puts the sheet at the buffer's start; each is a case of the call.
 use Rattle.std.proofs.Common.{ap, ◌∙◌, refl, arith}
 use Rattle.rules.specs.Sheet.{write_sheet}
-use Rattle.rules.specs.declared.WriteAnswer.{WriteAnswer}
 use Rattle.rules.proofs.Calls.{refused_by, not_refused, few_words, write_refused, write_short, write_made}
 use Rattle.sheet.proofs.write_sheet.Goals as goal
+use Rattle.std.specs.Prelude.{Ok}
 
 pub returns-in-Refused : goal.returns-in-Refused
 returns-in-Refused c = write_refused _ _ c.in-Refused.r (refused_by _ _ c.in-Refused.ensures refl)
@@ -26,4 +26,4 @@ pub returns : goal.returns
 returns c =
     let long = c.sheet_length-total.ensures.0 in
     let outcome = write_made {make = write_sheet} c.args.table.now c.args.out.now (not_refused _ c.check_table-checked.ensures c.in_default.is) (omega arith) in
-    record { says = ap WriteAnswer.Written long ∙ outcome.says; leaves = c.put_sheet.ensures ∙ outcome.leaves }
+    record { says = ap Ok long ∙ outcome.says; leaves = c.put_sheet.ensures ∙ outcome.leaves }

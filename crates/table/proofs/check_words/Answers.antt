@@ -1,14 +1,13 @@
 -- `table::check_words` names the first word out of its range: each step either stops at word i or leaves the decision to those after it.
 use Rattle.std.proofs.Common.{sym, ap, ◌∙◌, arith}
-use Rattle.std.proofs.Math.Option.{Option}
 use Rattle.rules.specs.Refusals.{answering}
 use Rattle.rules.specs.declared.Refusal.{Refusal}
-use Rattle.rules.specs.declared.TableAnswer.{TableAnswer}
 use Rattle.rules.proofs.TableSteps.{past_all, word_fits, word_out}
 use Rattle.table.proofs.check_words.Goals as goal
+use Rattle.std.specs.Prelude.{Option, Result, Ok, Err}
 
-abbrev answer : Option Refusal → TableAnswer
-answer o = answering o TableAnswer.Refused TableAnswer.Fine
+abbrev answer : Option Refusal → Result (Unit {0}) Refusal
+answer o = answering o Err (Ok tt)
 
 -- word i is out of its range
 pub returns-then-not-fits : goal.returns-then-not-fits

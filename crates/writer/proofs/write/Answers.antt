@@ -2,9 +2,9 @@
 -- writer's call.
 use Rattle.std.proofs.Common.{ap, ◌∙◌, arith}
 use Rattle.rules.specs.Text.{write_set}
-use Rattle.rules.specs.declared.WriteAnswer.{WriteAnswer}
 use Rattle.rules.proofs.Calls.{refused_by, not_refused, few_words, write_refused, write_short, write_made}
 use Rattle.writer.proofs.write.Goals as goal
+use Rattle.std.specs.Prelude.{Ok}
 
 -- the table is refused
 pub returns-in-Refused : goal.returns-in-Refused
@@ -31,4 +31,4 @@ returns c =
     let long = c.text_length-total.ensures.0 in
     let fine = not_refused _ c.check_table-checked.ensures c.in_default.is in
     let outcome = write_made {make = write_set} c.args.table.now c.args.out.now fine (omega (arith, c.if-out-total.false)) in
-    record { says = ap WriteAnswer.Written long ∙ outcome.says; leaves = c.put_set.ensures ∙ outcome.leaves }
+    record { says = ap Ok long ∙ outcome.says; leaves = c.put_set.ensures ∙ outcome.leaves }

@@ -26,14 +26,14 @@ pub fn refusal_number(r: Refusal) -> u32
     }
 }
 
-// What a refusal carries.
-pub fn refusal_carries(r: Refusal) -> Carried
+// What a refusal carries, if anything.
+pub fn refusal_carries(r: Refusal) -> Option<Carried>
     ensures { result ≡ (entry r).carries }
 {
     match r {
-        Refusal::OutOfRange(i) => Carried::Word(i),
-        Refusal::BadLine(l) => Carried::Line(l),
-        Refusal::BadRecord(l) => Carried::Record(l),
+        Refusal::OutOfRange(i) => Some(Carried::Word(i)),
+        Refusal::BadLine(l) => Some(Carried::Line(l)),
+        Refusal::BadRecord(l) => Some(Carried::Record(l)),
         _ => None,
     }
 }

@@ -7,7 +7,6 @@ use lib.ListN.{length, take, drop, length-append}
 use lib.Seq.{take_at}
 use Rattle.print.specs.Place.{put, Puts}
 use Rattle.print.proofs.Putting.{put_nil, put_start, put_after, then}
-use Rattle.std.specs.Prelude.{None}
 
 -- two parts, put one after the other where there is room for both
 module _ (old : List ℕ) (at : ℕ) (a b : List ℕ) (room : at + length (a ++ b) ≤ length old) where
@@ -46,7 +45,7 @@ module _ {whole out rest : List ℕ} {at : ℕ} (a b : List ℕ) (remains : Rema
 
 -- at the end nothing
 pub none_remains : {whole out rest : List ℕ} {at : ℕ} → Remains whole out at rest → rest ≡ [] → out ≡ whole
-none_remains {whole} {out} {rest} {at} remains None = sym (put_nil out at) ∙ ap (put out at) (sym None) ∙ remains.makes
+none_remains {whole} {out} {rest} {at} remains nothing = sym (put_nil out at) ∙ ap (put out at) (sym nothing) ∙ remains.makes
 
 -- bytes put at the start of a page, and from there at the start of another list
 pub by_page : {blank page old exit : List ℕ} {size last : ℕ} (vs : List ℕ) → Puts blank 0 vs size page → Puts old 0 (take size page) last exit

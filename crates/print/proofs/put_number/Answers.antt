@@ -4,7 +4,6 @@ use Rattle.print.specs.Place.{put}
 use Rattle.rules.proofs.Digits.{lasts, digits_lasts}
 use Rattle.print.proofs.Putting.{put_none, put_digit}
 use Rattle.print.proofs.put_number.Goals as goal
-use Rattle.std.specs.Prelude.{None}
 
 pub loop-i-init : goal.loop-i-init
 loop-i-init c =
@@ -29,8 +28,8 @@ loop-i-preserved c =
 
 pub returns : goal.returns
 returns c =
-    let None : c.loop-i.i ≡ 0 = omega arith in
+    let nothing : c.loop-i.i ≡ 0 = omega arith in
     record {
       says = omega arith;
-      leaves = sym (put_none _ c.args.at _ c.loop-i.v None) ∙ c.loop-i.invariant.put_left;
+      leaves = sym (put_none _ c.args.at _ c.loop-i.v nothing) ∙ c.loop-i.invariant.put_left;
     }

@@ -1,5 +1,5 @@
 -- The three demands on one page, over the definitions and the calls' contracts of rules/specs.
-use Rattle.std.specs.Prelude.{◌≡◌, ◌↔◌, ◌⊎◌, ℕ, suc, ◌+◌, ◌-◌, ◌*◌, ◌/◌, ◌%◌, ◌≤◌, ◌<◌, true, false, length, take, drop, replicate, if◌then◌else◌}
+use Rattle.std.specs.Prelude.{◌≡◌, ◌↔◌, ◌⊎◌, ℕ, suc, ◌+◌, ◌-◌, ◌*◌, ◌/◌, ◌%◌, ◌≤◌, ◌<◌, true, false, length, take, drop, replicate, if◌then◌else◌, Option, Some, Result, Ok, Err, None}
 use mathlib.Core.List.{List, [], ◌∷◌, ◌++◌, Memᴰ}
 use Rattle.rules.specs.declared.Task.{Task}
 use Rattle.rules.specs.Task.{tasks_of, task_at, executions, AllSound}
@@ -21,7 +21,6 @@ use Rattle.rules.specs.Generator.{set_drawn, words_drawn, state_after_set, state
 use Rattle.rules.specs.declared.Refusal.{Refusal}
 use Rattle.rules.specs.declared.Verdict.{Verdict}
 use Rattle.promises.specs.Tables.{Least, Nowhere, ReaderTells, WriterTells, ScheduleTells, JudgeTells, PatternTells, FirstTells, ReportTells, Run, SetTells, SheetTells}
-use Rattle.std.specs.Prelude.{Option, Some, Result, Ok, Err, None}
 use Rattle.rules.specs.declared.Timing.{Timing}
 use Rattle.rules.specs.declared.Reported.{Reported}
 

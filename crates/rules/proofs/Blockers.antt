@@ -1,5 +1,5 @@
 -- The wait and the blocker are those of document 01: the greatest C − 1, and the lowest-numbered task with the greatest C.
-use Rattle.std.specs.Prelude.{if◌then◌else◌}
+use Rattle.std.specs.Prelude.{if◌then◌else◌, Some, None}
 use mathlib.Core.Path.{◌≡◌, refl, ap, subst}
 use mathlib.Core.Logic.{◌↔◌}
 use Prim.Native.Nat.{ℕ, zero, suc, ◌+◌, ◌-◌, ◌≤◌, ◌<◌, max}
@@ -13,7 +13,6 @@ use borrow.Author.Tests.{ltb-true, ltb-false, lt-ltb, eqb-true, eqb-false}
 use Rattle.rules.specs.Task.{task_at}
 use Rattle.rules.specs.declared.Task.{Task}
 use Rattle.rules.specs.Demand.{wait, longest_wait, first_waiting, blocker, Blocks}
-use Rattle.std.specs.Prelude.{Some, None}
 
 -- Wait(L) is at least C − 1 of each task with D above L
 pub wait_most : (L : ℕ) (ts : List Task) (k : ℕ) → k < length ts → L < (task_at ts k).D → (task_at ts k).C - 1 ≤ longest_wait L ts

@@ -1,5 +1,5 @@
 -- Draws and the sets drawn, as code makes them: one draw, a task's four, the tasks one after another, the set.
-use Rattle.std.specs.Prelude.{if◌then◌else◌}
+use Rattle.std.specs.Prelude.{if◌then◌else◌, Ok, Err}
 use mathlib.Core.Path.{◌≡◌, refl, sym, ap, ap₂, ◌∙◌}
 use Prim.Native.Nat.{ℕ, zero, suc, ◌+◌, ◌-◌, ◌*◌, ◌/◌, ◌%◌, ◌≤◌, ◌<◌, min}
 use native.Mathlib.Nat.{zero-add}
@@ -12,7 +12,6 @@ use borrow.Author.Tests.{lt-ltb, le-ltb, ne_eqb}
 use Rattle.rules.specs.Generator.{next_state, drawn, state_after, count_drawn, task_drawn, tasks_drawn, long_kernel, last_long, with_long, set_drawn, state_after_set, words_of, words_drawn, Draws, draw_refusal, draw_answer, draw_state, draw_table, DrawsSet}
 use Rattle.rules.specs.declared.Task.{Task}
 use Rattle.rules.specs.declared.Refusal.TheVariants.{TooShort}
-use Rattle.std.specs.Prelude.{Ok, Err}
 
 -- the state after a draw, in figures
 pub next_is : (s : ℕ) → next_state s ≡ (1664525 * s % 4294967296 + 1013904223) % 4294967296

@@ -1,5 +1,5 @@
 -- A set drawn is one that the verdict doesn't refuse: its tasks are short, or one of them is the long kernel, and so all its words are in range.
-use Rattle.std.specs.Prelude.{if◌then◌else◌}
+use Rattle.std.specs.Prelude.{if◌then◌else◌, None}
 use mathlib.Core.Path.{◌≡◌, refl}
 use Prim.Native.Nat.{ℕ, zero, suc, ◌+◌, ◌%◌, ◌≤◌, ◌<◌, min}
 use native.Mathlib.Nat.{mod-lt}
@@ -14,7 +14,6 @@ use Rattle.rules.specs.Generator.{drawn, state_after, count_drawn, task_drawn, t
 use Rattle.rules.specs.declared.Task.{Task}
 use Rattle.rules.proofs.Drawn.{count_low, count_high, length_words_drawn}
 use Rattle.rules.proofs.Refused.{refused_not}
-use Rattle.std.specs.Prelude.{None}
 
 -- each task as it is drawn: T 1 to 1,000, C 1 to T, D 1 to 2,000, R 0 to 999
 pub record Short (τ : Task) : Type 0 where

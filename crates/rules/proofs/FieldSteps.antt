@@ -1,6 +1,6 @@
 -- One step of each definition that reads a field, or what follows one, at bytes known by their place. The content is told as it stands between
 -- quotes. A walk over the bytes of a field has passed some of them where the field is they, before what is read of the others.
-use Rattle.std.specs.Prelude.{if◌then◌else◌}
+use Rattle.std.specs.Prelude.{if◌then◌else◌, Option, Some, None}
 use mathlib.Core.Path.{◌≡◌, refl, sym, ap, ap₂, ◌∙◌}
 use Prim.Native.Nat.{ℕ, ◌+◌, ◌≤◌, ◌<◌}
 use native.Mathlib.Numerals.{add-one}
@@ -18,7 +18,6 @@ use Rattle.rules.specs.Standing.{standing, standing_step}
 use Rattle.rules.proofs.Booleans.{impossible, true_is_not_false}
 use Rattle.rules.proofs.ReadSteps.{empty, first_of}
 use Rattle.rules.proofs.Records.{double_other}
-use Rattle.std.specs.Prelude.{Option, Some, None}
 
 -- a mark
 module _ (b : ℕ) where

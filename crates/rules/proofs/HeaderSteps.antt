@@ -1,5 +1,5 @@
 -- A header's columns one by one: which of them has a name, how many have it, and when the header is good.
-use Rattle.std.specs.Prelude.{if◌then◌else◌}
+use Rattle.std.specs.Prelude.{if◌then◌else◌, Some, None}
 use mathlib.Core.Path.{◌≡◌, refl, sym, ap, ◌∙◌}
 use Prim.Native.Nat.{ℕ, zero, suc, ◌+◌, ◌≤◌, ◌<◌}
 use native.Mathlib.Omega.{arith}
@@ -17,7 +17,6 @@ use Rattle.rules.proofs.Booleans.{split}
 use Rattle.rules.proofs.Records.{befores, befores_fields, befores_nothing}
 use Rattle.rules.proofs.SheetNames.{once_exact, column_is, header_exact}
 use Rattle.rules.proofs.SheetRecords.{header_of, sheet_none}
-use Rattle.std.specs.Prelude.{Some, None}
 
 -- a content is a name if nothing is left after it
 module _ (name c : List ℕ) where

@@ -1,5 +1,5 @@
 -- The late job that a schedule names: of the late rows' jobs the one with the least deadline, ties to the lower task.
-use Rattle.std.specs.Prelude.{if◌then◌else◌}
+use Rattle.std.specs.Prelude.{if◌then◌else◌, Option, Some, None}
 use mathlib.Core.Path.{◌≡◌, refl, sym, ap, ◌∙◌}
 use mathlib.Core.Logic.{◌↔◌}
 use Prim.Native.Nat.{ℕ, ◌≤◌, ◌<◌}
@@ -12,7 +12,6 @@ use Rattle.rules.specs.Dispatch.{Job, Row, finish, late, before, sooner, late_jo
 use Rattle.rules.proofs.Booleans.{true_is_not_false}
 use Rattle.rules.specs.Policy.{Ahead, NamedLate}
 use Rattle.rules.proofs.Order.{ahead_self, ahead_trans, before_true, before_false, sooner_none, earlier, earlier_assoc}
-use Rattle.std.specs.Prelude.{Option, Some, None}
 
 -- j is the job of a late row, and is ahead of every late row's job
 record Latest (ws : List Row) (j : Job) : Type 0 where

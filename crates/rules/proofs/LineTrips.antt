@@ -1,5 +1,5 @@
 -- A line that is written is read back, and a line that is read was written so.
-use Rattle.std.specs.Prelude.{if◌then◌else◌}
+use Rattle.std.specs.Prelude.{if◌then◌else◌, Option, Some, None}
 use mathlib.Core.Path.{◌≡◌, refl, sym, ap, ap₂, ◌∙◌}
 use Prim.Native.Nat.{ℕ, zero, suc, ◌+◌, ◌-◌, ◌*◌, ◌/◌, ◌%◌, ◌^◌, ◌≤◌, ◌<◌}
 use native.Mathlib.Decide.{dec_lt}
@@ -12,7 +12,6 @@ use borrow.Author.Tests.{eq-eqb, eqb-true, eqb-false}
 use Rattle.rules.specs.Text.{Read, got, bad, after_key, digit, more_digits, read_number, line_end, number_line, read_line, digits, line}
 use Rattle.rules.proofs.Digits.{digits_one, digits_more}
 use Rattle.rules.proofs.ReadSteps.{below_digits, a_digit, digit_range, more_other, more_step, number_zero, number_more, end_right}
-use Rattle.std.specs.Prelude.{Option, Some, None}
 
 -- what was read before: the digits of a number below 100,000
 pub record Was (s : List ℕ) (w : ℕ) (rest : List ℕ) : Type 0 where

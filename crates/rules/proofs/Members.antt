@@ -1,5 +1,5 @@
 -- Trains of jobs: their members, their length, and their counts as document 01 puts them, "while the deadline is at most ..".
-use Rattle.std.specs.Prelude.{if◌then◌else◌}
+use Rattle.std.specs.Prelude.{if◌then◌else◌, Some, None}
 use mathlib.Core.Path.{◌≡◌, refl, sym, ap, subst}
 use mathlib.Core.Logic.{◌↔◌, ◌⊎◌, inl, inr}
 use Prim.Native.Nat.{ℕ, zero, suc, ◌+◌, ◌-◌, ◌*◌, ◌/◌, ◌≤◌, ◌<◌}
@@ -18,7 +18,6 @@ use Rattle.rules.specs.Dispatch.{Job}
 use Rattle.rules.specs.Jobs.{Train, OnTrain, train, trains, count_before, concrete_train, planned, concrete, named_train, named}
 use Rattle.rules.specs.Demand.{count_within, blocker}
 use Rattle.rules.proofs.Legal.{task_at_sound}
-use Rattle.std.specs.Prelude.{Some, None}
 
 -- the whole part of a quotient, as a count
 div_counts : (i m T : ℕ) → 1 ≤ T → (i < 1 + m / T) ↔ (i * T ≤ m)

@@ -1,5 +1,5 @@
 -- MISSES: the pattern that a failing length names is legal, all of it runs for C, and some row of it is late.
-use Rattle.std.specs.Prelude.{if◌then◌else◌}
+use Rattle.std.specs.Prelude.{if◌then◌else◌, Option, Some, None}
 use mathlib.Core.Path.{◌≡◌, refl, sym, ap, ◌∙◌}
 use Prim.Native.Nat.{ℕ, zero, suc, ◌+◌, ◌*◌, ◌≤◌, ◌<◌}
 use native.Mathlib.Nat.{mul-suc}
@@ -23,7 +23,6 @@ use Rattle.rules.proofs.Loads.{amount, total, since, due_load}
 use Rattle.rules.proofs.Blockers.{wait_most, wait_reached, blocker_task, blocker_nobody}
 use Rattle.rules.proofs.Verdicts.{fails_when, due_out}
 use Rattle.rules.proofs.Overfull.{LateIn, late_run, late_behind}
-use Rattle.std.specs.Prelude.{Option, Some, None}
 
 total_append : (p : Job → Bool) (xs ys : List Job) → total p (xs ++ ys) ≡ total p xs + total p ys
 unfolding total

@@ -1,5 +1,5 @@
 -- The order of jobs, by deadline and then by task; and of two the one that goes before.
-use Rattle.std.specs.Prelude.{if◌then◌else◌}
+use Rattle.std.specs.Prelude.{if◌then◌else◌, Option, Some, None}
 use mathlib.Core.Path.{◌≡◌, refl, sym, ap, ◌∙◌}
 use Prim.Native.Nat.{ℕ, ◌≤◌, ◌<◌}
 use native.Mathlib.Omega.{arith}
@@ -9,7 +9,6 @@ use borrow.Author.Tests.{eqb-true, eqb-false, ltb-true, ltb-false, lt-ltb, le-lt
 use Rattle.rules.specs.Dispatch.{Job, before, sooner}
 use Rattle.rules.specs.Policy.{Ahead}
 use Rattle.rules.proofs.Booleans.{true_is_not_false, split}
-use Rattle.std.specs.Prelude.{Option, Some, None}
 
 pub ahead_self : (j : Job) → Ahead j j
 ahead_self j = record { deadline = omega arith; task = λ e. omega arith }

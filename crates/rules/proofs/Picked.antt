@@ -1,5 +1,5 @@
 -- What the dispatcher's choice does: when the next job starts, and which one it is.
-use Rattle.std.specs.Prelude.{if◌then◌else◌}
+use Rattle.std.specs.Prelude.{if◌then◌else◌, Option, Some, None}
 use mathlib.Core.Path.{◌≡◌, refl}
 use Prim.Native.Nat.{ℕ, min, ◌≤◌, ◌<◌}
 use mathlib.Core.List.Memᴰ
@@ -12,7 +12,6 @@ use Rattle.rules.specs.Dispatch.{Job, before, sooner, pick, earliest}
 use Rattle.rules.specs.Policy.{Ahead}
 use Rattle.rules.proofs.Order.{ahead_self, ahead_trans, before_true, before_false}
 use Rattle.rules.proofs.Taken.{mem_cons}
-use Rattle.std.specs.Prelude.{Option, Some, None}
 
 -- no job of a list is released before the earliest release
 pub earliest_least : (j : Job) (js : List Job) (i : Job) → Memᴰ i (j ∷ js) → earliest j js ≤ i.release

@@ -1,6 +1,6 @@
 -- A record by its next field, whatever number of fields is allowed: each field that a comma follows leaves fewer bytes, so that one field more than
 -- there are bytes is never reached. And what is asked of a content, a name or a number, can be asked of it with its quotes doubled: neither has a quote.
-use Rattle.std.specs.Prelude.{if◌then◌else◌}
+use Rattle.std.specs.Prelude.{if◌then◌else◌, Option, Some, None}
 use mathlib.Core.Path.{◌≡◌, refl, sym, ap, ◌∙◌}
 use Prim.Native.Nat.{ℕ, zero, suc, ◌+◌, ◌-◌, ◌*◌, ◌≤◌, ◌<◌}
 use native.Mathlib.Omega.{arith}
@@ -14,7 +14,6 @@ use Rattle.rules.specs.Sheet.{mark, Field, content, no_field, byte, read_plain, 
 use Rattle.rules.specs.Sheets.{doubled}
 use Rattle.rules.proofs.Booleans.{impossible, true_is_not_false, both_true, chosen}
 use Rattle.rules.proofs.ReadSteps.{digit_range}
-use Rattle.std.specs.Prelude.{Option, Some, None}
 
 -- how many bytes a field leaves
 left : Field → ℕ

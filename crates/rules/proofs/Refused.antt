@@ -1,5 +1,5 @@
 -- Refusals 1 to 4 are given exactly when document 01's table says.
-use Rattle.std.specs.Prelude.{if◌then◌else◌}
+use Rattle.std.specs.Prelude.{if◌then◌else◌, Option, Some, None}
 use mathlib.Core.Path.{◌≡◌, refl, sym, ap, subst, ◌∙◌}
 use mathlib.Core.Logic.{◌↔◌}
 use Prim.Native.Nat.{ℕ, zero, suc, ◌+◌, ◌%◌, ◌≤◌, ◌<◌}
@@ -17,7 +17,6 @@ use Rattle.rules.specs.Table.{word_least, in_range, out_of_range, table_refusal,
 use Rattle.rules.specs.declared.Refusal.{Refusal}
 use Rattle.rules.specs.declared.Refusal.TheVariants.{NoWord, NotFours, TooManyWords, OutOfRange}
 use Rattle.rules.proofs.Booleans.{both, both_true, true_is_not_false}
-use Rattle.std.specs.Prelude.{Option, Some, None}
 
 range_true : (i x : ℕ) → in_range i x ≡ true → Ranged i x
 unfolding in_range word_least

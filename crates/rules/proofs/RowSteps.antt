@@ -1,5 +1,5 @@
 -- A field's number by what is read at its start; a task's record by the numbers in its columns; and the records of tasks one by one.
-use Rattle.std.specs.Prelude.{if◌then◌else◌}
+use Rattle.std.specs.Prelude.{if◌then◌else◌, Option, Some, None}
 use mathlib.Core.Path.{◌≡◌, refl, sym, ap, ◌∙◌}
 use Prim.Native.Nat.{ℕ, zero, suc, ◌+◌, ◌-◌, ◌<◌}
 use native.Mathlib.Nat.{not-suc-le-zero}
@@ -14,7 +14,6 @@ use Rattle.rules.specs.Text.{got, bad, read_number}
 use Rattle.rules.specs.Sheet.{Record, fields, no_record, read_record, whole, field_number, also, numbers_in, Row, row, no_row, row_of, read_row, Sheet, tasks, wrong, no_header, words_ahead, or_wrong, at_record, read_tasks}
 use Rattle.rules.proofs.ReadSteps.{empty, first_of}
 use Rattle.rules.proofs.Records.{befores, befores_fields, befores_nothing}
-use Rattle.std.specs.Prelude.{Option, Some, None}
 
 -- a field's number, by what is read at its start
 module _ (c : List ℕ) where

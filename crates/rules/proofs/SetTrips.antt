@@ -1,5 +1,5 @@
 -- A set that is written is read back, and a set that is read was written so.
-use Rattle.std.specs.Prelude.{if◌then◌else◌}
+use Rattle.std.specs.Prelude.{if◌then◌else◌, None}
 use mathlib.Core.Path.{◌≡◌, refl, sym, ap, ap₂, ◌∙◌, subst}
 use Prim.Native.Nat.{ℕ, zero, suc, ◌+◌, ◌*◌, ◌/◌, ◌%◌, ◌≤◌, ◌<◌}
 use native.Mathlib.Omega.{arith}
@@ -13,7 +13,6 @@ use Rattle.rules.specs.Text.{Read, got, bad, Lines, took, stop, ahead, or_stop, 
 use Rattle.rules.proofs.Booleans.{both_true}
 use Rattle.rules.proofs.Tables.{valid_of}
 use Rattle.rules.proofs.LineTrips.{line_there, line_back}
-use Rattle.std.specs.Prelude.{None}
 
 -- words that a line can hold
 unfoldable pub Small : List ℕ → Type 0

@@ -1,6 +1,6 @@
 -- A record is read exactly where one stands in the paper's words: what a field was read from stands there, plain or quoted, and what stands there before
 -- a comma, a line end or the end of the sheet is read; so field by field.
-use Rattle.std.specs.Prelude.{if◌then◌else◌}
+use Rattle.std.specs.Prelude.{if◌then◌else◌, Option, Some, None}
 use mathlib.Core.Path.{◌≡◌, refl, sym, ap, ap₂, ◌∙◌, subst}
 use mathlib.Core.Logic.{◌↔◌}
 use Prim.Native.Nat.{ℕ, zero, suc, ◌<◌}
@@ -17,7 +17,6 @@ use Rattle.rules.specs.Sheets.{doubled, Stands, Commas, Begins}
 use Rattle.rules.proofs.Booleans.{impossible}
 use Rattle.rules.proofs.LineTrips.{key_there, key_back}
 use Rattle.rules.proofs.Records.{double_other, more_shorter, record_more, record_last, record_none}
-use Rattle.std.specs.Prelude.{Option, Some, None}
 
 -- no quote, comma, CR or LF
 abbrev pub Plain : ℕ → Type 0

@@ -1,6 +1,6 @@
 -- A sheet's names, header and numbers are the paper's: the tests say what its words say, both ways. A content is a name byte for byte; a name that is
 -- counted once has one column, and it is the one that is found; a header is good where the four names come once each; a number is a field's whole content.
-use Rattle.std.specs.Prelude.{if◌then◌else◌}
+use Rattle.std.specs.Prelude.{if◌then◌else◌, Option, Some, None}
 use mathlib.Core.Path.{◌≡◌, refl, sym, ap, ◌∙◌}
 use Prim.Native.Nat.{ℕ, zero, suc, ◌+◌, ◌<◌}
 use native.Mathlib.Omega.{arith}
@@ -16,7 +16,6 @@ use Rattle.rules.specs.Sheets.{Once}
 use Rattle.rules.proofs.Booleans.{impossible, true_is_not_false, both, both_true}
 use Rattle.rules.proofs.ReadSteps.{more_none}
 use Rattle.rules.proofs.LineTrips.{number_back, number_stops, key_there, key_back}
-use Rattle.std.specs.Prelude.{Option, Some, None}
 
 -- NAMES
 pub name_exact : (name h : List ℕ) → (is_name name h ≡ true) ↔ (h ≡ name)

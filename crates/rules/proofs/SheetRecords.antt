@@ -1,6 +1,6 @@
 -- What reading a sheet gives is what the paper's words say, both ways: a task's record, the records of tasks, the first that is not as due, the whole sheet.
 -- What was read has its words, record after record; and where the words hold that is what is read, since each step of theirs is one of the reading.
-use Rattle.std.specs.Prelude.{if◌then◌else◌}
+use Rattle.std.specs.Prelude.{if◌then◌else◌, Option, Some, None}
 use mathlib.Core.Path.{◌≡◌, refl, sym, ap, subst, ◌∙◌}
 use Prim.Native.Nat.{ℕ, zero, suc, ◌+◌, ◌-◌, ◌*◌, ◌/◌, ◌%◌, ◌≤◌}
 use native.Mathlib.Omega.{arith}
@@ -15,7 +15,6 @@ use Rattle.rules.specs.Sheets.{Begins, Once, Header, Under, Kernel, kernel, Task
 use Rattle.rules.proofs.Booleans.{impossible, true_is_not_false}
 use Rattle.rules.proofs.SheetGrammar.{record_exact}
 use Rattle.rules.proofs.SheetNames.{column_is, header_exact, number_exact}
-use Rattle.std.specs.Prelude.{Option, Some, None}
 
 -- NUMBERS
 -- the number in the column of a name

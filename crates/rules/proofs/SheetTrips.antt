@@ -1,6 +1,6 @@
 -- A sheet that is written from a table is read back to it: its first line stands as the header, with the names in their order, and each task's line as a
 -- record of four plain fields, its words' digits; digits are no marks.
-use Rattle.std.specs.Prelude.{if◌then◌else◌}
+use Rattle.std.specs.Prelude.{if◌then◌else◌, None}
 use mathlib.Core.Path.{◌≡◌, refl, sym, ap, ◌∙◌}
 use Prim.Native.Nat.{ℕ, zero, suc, ◌+◌, ◌*◌, ◌/◌, ◌%◌, ◌≤◌, ◌<◌}
 use native.Mathlib.Decide.{dec_lt}
@@ -20,7 +20,6 @@ use Rattle.rules.proofs.Tables.{valid_of}
 use Rattle.rules.proofs.SetTrips.{Small, small_of}
 use Rattle.rules.proofs.SheetGrammar.{Plain, plain_byte, record_exact}
 use Rattle.rules.proofs.SheetNames.{number_exact}
-use Rattle.std.specs.Prelude.{None}
 
 -- bytes with no mark among them
 unfoldable markless : List ℕ → Bool

@@ -23,7 +23,6 @@ use Rattle.rules.proofs.Booleans.{both_true, true_is_not_false}
 use Rattle.rules.proofs.Tables.{table_sound}
 use Rattle.rules.proofs.RowWords.{length_row_words}
 use Rattle.rules.proofs.Calls.{counted, dispatch_rows, schedule_rows_law, pattern_rows_law}
-use Rattle.rules.proofs.RowWords.{length_row_words}
 use Rattle.rules.proofs.Search.{found, none_found}
 use Rattle.rules.proofs.BelowTheSpan.{least_below}
 use Rattle.rules.proofs.Verdicts.{First, NoneIn, none_when, misses_when, meets_when}

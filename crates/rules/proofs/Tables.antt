@@ -1,5 +1,5 @@
 -- Tables that are not refused: what they are in bounds, and their tasks by number.
-use Rattle.std.specs.Prelude.{if◌then◌else◌}
+use Rattle.std.specs.Prelude.{if◌then◌else◌, Option, Some, None}
 use mathlib.Core.Path.{◌≡◌, refl, sym, ap, subst, ◌∙◌}
 use Prim.Native.Nat.{ℕ, zero, suc, ◌+◌, ◌*◌, ◌/◌, ◌%◌, ◌≤◌, ◌<◌}
 use native.Mathlib.Nat.{add-zero, zero-add}
@@ -19,7 +19,6 @@ use Rattle.rules.specs.Table.{word_least, in_range, out_of_range, table_refusal,
 use Rattle.rules.specs.declared.Refusal.{Refusal}
 use Rattle.rules.specs.declared.Refusal.TheVariants.{NoWord, NotFours, TooManyWords, OutOfRange}
 use Rattle.rules.proofs.Booleans.{both_true}
-use Rattle.std.specs.Prelude.{Option, Some, None}
 
 -- a refusal is not none
 some_is_not_none : {A : Type 0} {r : Refusal} → ◌≡◌ {A = Option Refusal} (Some r) None → A

@@ -1,5 +1,5 @@
 -- Of each call the answer, and every lent buffer at exit, as functions of the inputs; refusals in the documents' order.
-use Rattle.std.specs.Prelude.{ℕ, ◌*◌, ◌/◌, List, [], ◌∷◌, Bool, true, false, not, ◌||◌, ltb, eqb, length}
+use Rattle.std.specs.Prelude.{ℕ, ◌*◌, ◌/◌, List, [], ◌∷◌, Bool, true, false, not, ◌||◌, ltb, eqb, length, Option, Some, None, Result, Ok, Err}
 use Rattle.rules.specs.Task.{tasks_of}
 use Rattle.rules.specs.Numbers.{end_most}
 use Rattle.rules.specs.Refusals.{◌when◌, first_of, answering, lent}
@@ -13,7 +13,6 @@ use Rattle.rules.specs.Sheet.{Sheet, tasks, wrong, no_header, read_sheet, sheet_
 use Rattle.rules.specs.declared.Refusal.{Refusal}
 use Rattle.rules.specs.declared.Refusal.TheVariants.{BadEnd, TooShort, BadLine, NotMisses, NoHeader, BadRecord, NoRecord}
 use Rattle.rules.specs.declared.Verdict.{Verdict}
-use Rattle.std.specs.Prelude.{Option, Some, None, Result, Ok, Err}
 use Rattle.rules.specs.declared.Timing.{Timing}
 
 -- refusal 7, with the number of the first line missing or not as due

@@ -1,11 +1,10 @@
 -- What each call promises: one record a call, its answer and every lent buffer at exit by equations.
-use Rattle.std.specs.Prelude.{◌≡◌, ℕ, List}
+use Rattle.std.specs.Prelude.{◌≡◌, ℕ, List, Result}
 use Rattle.rules.specs.Dispatch.{Job}
 use Rattle.rules.specs.Text.{write_set}
 use Rattle.rules.specs.Sheet.{write_sheet}
 use Rattle.rules.specs.Answers.{read_answer, read_table, read_rest, make_answer, make_buffer, read_sheet_answer, read_sheet_table, dispatch_answer, dispatch_buffer, schedule_answer, schedule_buffer, pattern_answer, pattern_buffer}
 use Rattle.rules.specs.Report.{report_answer, report_buffer}
-use Rattle.std.specs.Prelude.{Result}
 use Rattle.rules.specs.declared.Refusal.{Refusal}
 use Rattle.rules.specs.declared.Timing.{Timing}
 use Rattle.rules.specs.declared.Reported.{Reported}

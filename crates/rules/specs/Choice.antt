@@ -1,6 +1,5 @@
 -- A search by a test.
-use Rattle.std.specs.Prelude.{ℕ, zero, suc, Bool, if◌then◌else◌}
-use Rattle.std.specs.Prelude.{Option, Some, None}
+use Rattle.std.specs.Prelude.{ℕ, zero, suc, Bool, if◌then◌else◌, Option, Some, None}
 
 -- the least of the n numbers from k on that passes the test
 unfoldable pub least : (ℕ → Bool) → ℕ → ℕ → Option ℕ

@@ -1,11 +1,10 @@
 -- The verdict over all arrivals. Document 01, "The verdict over all arrivals"; document 02, 3/14.
-use Rattle.std.specs.Prelude.{ℕ, suc, ◌+◌, ◌-◌, ◌*◌, ◌/◌, max, ◌≤◌, ◌<◌, List, [], ◌∷◌, Bool, ◌&&◌, leb, ltb, eqb, length, if◌then◌else◌}
+use Rattle.std.specs.Prelude.{ℕ, suc, ◌+◌, ◌-◌, ◌*◌, ◌/◌, max, ◌≤◌, ◌<◌, List, [], ◌∷◌, Bool, ◌&&◌, leb, ltb, eqb, length, if◌then◌else◌, Option, Some, None}
 use Rattle.rules.specs.Choice.{least}
 use Rattle.rules.specs.Numbers.{horizon}
 use Rattle.rules.specs.Task.{task_at}
 use Rattle.rules.specs.declared.Task.{Task}
 use Rattle.rules.specs.declared.Verdict.{Verdict}
-use Rattle.std.specs.Prelude.{Option, Some, None}
 
 -- how many jobs a task has due within a length: 1 + the whole part of (L − D) / T where D is at most L
 unfoldable pub count_within : ℕ → Task → ℕ

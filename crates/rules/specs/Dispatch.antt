@@ -1,6 +1,5 @@
 -- The dispatcher: least deadline first, equal deadlines to the lower task, never preempted, never idle. Document 01, "Dispatch".
-use Rattle.std.specs.Prelude.{ℕ, zero, suc, ◌+◌, max, min, List, [], ◌∷◌, Bool, ◌&&◌, ◌||◌, leb, ltb, eqb, length, if◌then◌else◌}
-use Rattle.std.specs.Prelude.{Option, Some, None}
+use Rattle.std.specs.Prelude.{ℕ, zero, suc, ◌+◌, max, min, List, [], ◌∷◌, Bool, ◌&&◌, ◌||◌, leb, ltb, eqb, length, if◌then◌else◌, Option, Some, None}
 
 -- a job: its task, its number within the task, its release, its deadline, its run time
 pub record Job : Type 0 where

@@ -1,11 +1,10 @@
 -- Sets drawn from a seed, the first state. Document 02, 1/14.
-use Rattle.std.specs.Prelude.{◌≡◌, ℕ, zero, suc, ◌+◌, ◌*◌, ◌/◌, ◌%◌, min, List, [], ◌∷◌, ◌++◌, ltb, eqb, length, if◌then◌else◌}
+use Rattle.std.specs.Prelude.{◌≡◌, ℕ, zero, suc, ◌+◌, ◌*◌, ◌/◌, ◌%◌, min, List, [], ◌∷◌, ◌++◌, ltb, eqb, length, if◌then◌else◌, Option, Result, Ok, Err}
 use Rattle.rules.specs.Refusals.{◌when◌, answering, lent}
 use Rattle.rules.specs.Text.{write_set}
 use Rattle.rules.specs.declared.Task.{Task}
 use Rattle.rules.specs.declared.Refusal.{Refusal}
 use Rattle.rules.specs.declared.Refusal.TheVariants.{TooShort}
-use Rattle.std.specs.Prelude.{Option, Result, Ok, Err}
 
 -- a draw replaces the state by 1,664,525 times the state plus 1,013,904,223; the product and the sum are taken modulo 4,294,967,296
 unfoldable pub next_state : ℕ → ℕ

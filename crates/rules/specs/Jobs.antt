@@ -1,11 +1,10 @@
 -- Lists of jobs: those of the concrete schedule and those of the named pattern, both as one train of jobs a task.
 -- Document 01, "Dispatch" (job q of a task) and "The named pattern".
-use Rattle.std.specs.Prelude.{◌≡◌, ℕ, zero, suc, ◌+◌, ◌-◌, ◌*◌, ◌/◌, List, [], ◌∷◌, ◌++◌, ltb, eqb, if◌then◌else◌}
+use Rattle.std.specs.Prelude.{◌≡◌, ℕ, zero, suc, ◌+◌, ◌-◌, ◌*◌, ◌/◌, List, [], ◌∷◌, ◌++◌, ltb, eqb, if◌then◌else◌, Option, Some, None}
 use Rattle.rules.specs.declared.Task.{Task}
 use Rattle.rules.specs.Dispatch.{Job}
 use Rattle.rules.specs.Demand.{count_within, blocker}
 use Rattle.rules.specs.declared.Plan.{Plan}
-use Rattle.std.specs.Prelude.{Option, Some, None}
 
 -- n jobs of task number k, the first being number q and released at r, each a period after the one before; all run for C
 unfoldable pub train : ℕ → ℕ → ℕ → ℕ → Task → List Job

@@ -1,10 +1,9 @@
 -- The refusals, their order and what a refused call leaves. Document 01, "Refusal numbers"; document 02, 2/14.
-use Rattle.std.specs.Prelude.{ℕ, List, [], ◌∷◌, ◌++◌, Bool, true, false, length, drop}
+use Rattle.std.specs.Prelude.{ℕ, List, [], ◌∷◌, ◌++◌, Bool, true, false, length, drop, Option, Some, None}
 use Rattle.rules.specs.Text.{bytes, digits, line}
 use Rattle.rules.specs.declared.Refusal.{Refusal}
 use Rattle.rules.specs.declared.Refusal.TheVariants.{NoWord, NotFours, TooManyWords, OutOfRange, BadEnd, TooShort, BadLine, NotMisses, NoHeader, BadRecord, NoRecord}
 use Rattle.rules.specs.declared.Carried.{Carried}
-use Rattle.std.specs.Prelude.{Option, Some, None}
 
 -- a refusal's entry: its number, and what it carries
 pub record Entry : Type 0 where

@@ -1,5 +1,5 @@
 -- What the program prints. Document 01, "The program and the C call"; document 02, 3/14.
-use Rattle.std.specs.Prelude.{ℕ, zero, suc, List, [], ◌∷◌, ◌++◌, ltb, eqb, length, if◌then◌else◌}
+use Rattle.std.specs.Prelude.{ℕ, zero, suc, List, [], ◌∷◌, ◌++◌, ltb, eqb, length, if◌then◌else◌, Option, Some, None, Result, Ok, Err}
 use Rattle.rules.specs.Numbers.{input_most}
 use Rattle.rules.specs.Refusals.{entry, carried_line, ◌when◌, answering, lent}
 use Rattle.rules.specs.Text.{bytes, digits, line, read_set, rest_read}
@@ -7,7 +7,6 @@ use Rattle.rules.specs.Answers.{first_answer}
 use Rattle.rules.specs.declared.Refusal.{Refusal}
 use Rattle.rules.specs.declared.Refusal.TheVariants.{TooShort}
 use Rattle.rules.specs.declared.Verdict.{Verdict}
-use Rattle.std.specs.Prelude.{Option, Some, None, Result, Ok, Err}
 use Rattle.rules.specs.declared.Reported.{Reported}
 
 -- a task number or none

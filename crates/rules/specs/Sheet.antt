@@ -1,8 +1,7 @@
 -- A sheet of comma-separated values, read and written. Document 02, 2/14: RFC 4180, by the decisions of docs/DECISIONS.md.
-use Rattle.std.specs.Prelude.{ℕ, zero, suc, ◌+◌, ◌-◌, ◌%◌, List, [], ◌∷◌, ◌++◌, Bool, true, false, ◌&&◌, ◌||◌, eqb, length, get_or, if◌then◌else◌}
+use Rattle.std.specs.Prelude.{ℕ, zero, suc, ◌+◌, ◌-◌, ◌%◌, List, [], ◌∷◌, ◌++◌, Bool, true, false, ◌&&◌, ◌||◌, eqb, length, get_or, if◌then◌else◌, Option, Some, None}
 use Rattle.rules.specs.Numbers.{task_most}
 use Rattle.rules.specs.Text.{bytes, Read, got, bad, after_key, read_number, digits}
-use Rattle.std.specs.Prelude.{Option, Some, None}
 
 -- the marks that part a sheet: line feed, carriage return, quote, comma
 abbrev pub lf : ℕ

@@ -1,9 +1,8 @@
 -- The starred sets of document 01, "Sets with their outcome", as one table under a single statement; a "misses" with its excess, document 02, 3/14.
-use Rattle.std.specs.Prelude.{◌≡◌, ℕ, length}
+use Rattle.std.specs.Prelude.{◌≡◌, ℕ, length, Option, Some, None, Ok}
 use mathlib.Core.List.{List, [], ◌∷◌, Memᴰ}
 use Rattle.rules.specs.Answers.{schedule_answer, schedule_buffer, verdict_answer, pattern_answer, pattern_buffer}
 use Rattle.rules.specs.declared.Verdict.{Verdict}
-use Rattle.std.specs.Prelude.{Option, Some, None, Ok}
 
 -- the words of tasks given as (C, D, T), R 0
 abbrev pub set : List (ℕ × ℕ × ℕ) → List ℕ

@@ -1,11 +1,10 @@
 -- Which tables are refused. Document 01, "What the check covers" (ranges) and "Refusal numbers" 1 to 4.
-use Rattle.std.specs.Prelude.{◌≡◌, ℕ, zero, suc, ◌+◌, ◌*◌, ◌/◌, ◌%◌, ◌≤◌, ◌<◌, List, [], ◌∷◌, Bool, not, ◌&&◌, leb, ltb, eqb, length, get_or, if◌then◌else◌}
+use Rattle.std.specs.Prelude.{◌≡◌, ℕ, zero, suc, ◌+◌, ◌*◌, ◌/◌, ◌%◌, ◌≤◌, ◌<◌, List, [], ◌∷◌, Bool, not, ◌&&◌, leb, ltb, eqb, length, get_or, if◌then◌else◌, Option, Some, None, Result, Ok, Err}
 use Rattle.rules.specs.Numbers.{task_most, table_most, word_most}
 use Rattle.rules.specs.declared.Task.{Task}
 use Rattle.rules.specs.Refusals.{◌when◌, first_of, answering}
 use Rattle.rules.specs.declared.Refusal.{Refusal}
 use Rattle.rules.specs.declared.Refusal.TheVariants.{NoWord, NotFours, TooManyWords, OutOfRange}
-use Rattle.std.specs.Prelude.{Option, Some, None, Result, Ok, Err}
 
 -- the least value of the word at an index: C, D and T are 1 or more, R may be 0
 unfoldable pub word_least : ℕ → ℕ

@@ -1,9 +1,8 @@
 -- The text of a set, read and written. Document 01, "The text of a set".
-use Rattle.std.specs.Prelude.{ℕ, zero, suc, ◌+◌, ◌-◌, ◌*◌, ◌/◌, ◌%◌, List, [], ◌∷◌, ◌++◌, Bool, ◌&&◌, leb, ltb, eqb, length, if◌then◌else◌}
+use Rattle.std.specs.Prelude.{ℕ, zero, suc, ◌+◌, ◌-◌, ◌*◌, ◌/◌, ◌%◌, List, [], ◌∷◌, ◌++◌, Bool, ◌&&◌, leb, ltb, eqb, length, if◌then◌else◌, Option, Some, None}
 use Prim.Native.Char.{code}
 use Prim.Native.String.{String}
 use Rattle.rules.specs.Numbers.{task_most}
-use Rattle.std.specs.Prelude.{Option, Some, None}
 
 -- the bytes of a text in plain letters
 abbrev pub bytes : String → List ℕ

@@ -1,9 +1,8 @@
 -- Each answer as this paper tells it: a number, and the values that go with it. Document 01, the last paragraph; document 02, 3/14.
-use Rattle.std.specs.Prelude.{ℕ, List, [], ◌∷◌, ◌++◌, get_or}
+use Rattle.std.specs.Prelude.{ℕ, List, [], ◌∷◌, ◌++◌, get_or, Option, Some, None, Result, Ok, Err}
 use Rattle.rules.specs.Refusals.{entry, carried_values}
 use Rattle.rules.specs.declared.Refusal.{Refusal}
 use Rattle.rules.specs.declared.Verdict.{Verdict}
-use Rattle.std.specs.Prelude.{Option, Some, None, Result, Ok, Err}
 use Rattle.rules.specs.declared.Late.{Late}
 use Rattle.rules.specs.declared.Timing.{Timing}
 use Rattle.rules.specs.declared.Reported.{Reported}

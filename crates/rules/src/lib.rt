@@ -1,5 +1,5 @@
-// What the calls take and answer, each `Ok` or refused, the keys of a text's lines, and the names of a sheet's columns. The documents as definitions over these types
-// stand in specs/.
+// What the calls take and answer, each `Ok` or refused; the keys of a text's lines; and the names of a sheet's columns. The documents as
+// definitions over these types stand in specs/.
 #![tactic(auto)]
 
 // The longest input of the programs, in bytes.

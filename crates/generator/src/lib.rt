@@ -4,7 +4,7 @@
 
 ghost use Rattle.rules.specs.Generator.{Draws, DrawsSet};
 
-use rules::ReadAnswer;
+use rules::Refusal;
 
 // What a draw needs: the state, at first the seed.
 #[derive(Clone, Copy)]

@@ -11,13 +11,12 @@ use Rattle.rules.proofs.FieldSteps.{stands_more, stands_last, stands_none}
 use Rattle.field.specs.Fields.{stepped}
 use Rattle.field.specs.declared.Next.{Next}
 use Rattle.field.specs.declared.Next.TheVariants.{More, Last, Wrong}
-use Rattle.std.specs.Prelude.{Some}
 
 -- neither wrong nor the last
 pub is_more : (a : Next) → (a ≡ Wrong → ⊥) → (a ≡ Last → ⊥) → a ≡ More
-is_more More Some not_last = refl
-is_more Last Some not_last = absurd (not_last refl)
-is_more Wrong Some not_last = absurd (Some refl)
+is_more More not_wrong not_last = refl
+is_more Last not_wrong not_last = absurd (not_last refl)
+is_more Wrong not_wrong not_last = absurd (not_wrong refl)
 
 -- what is left of a record after a field
 abbrev pub after_field : Next → List ℕ → Record
@@ -29,15 +28,15 @@ module _ (s body rest : List ℕ) where
   -- a field is found: its content is before what is left
   pub field_found : (a : Next) → (a ≡ Wrong → ⊥) → stepped a body rest ≡ standing_step (next_field s)
       → (c : List ℕ) × (body ≡ doubled c) × (read_record s ≡ before c (after_field a rest))
-  field_found More Some e =
+  field_found More not_wrong e =
       let found = stands_more body rest (next_field s) e in
       (found.0, found.2, record_more s found.0 rest found.1)
-  field_found Last Some e =
+  field_found Last not_wrong e =
       let found = stands_last body rest (next_field s) e in
       let c = found.0 in
       let alone : before c (fields [] rest) ≡ fields (c ∷ []) rest = sym (befores_none (before c (fields [] rest))) ∙ befores_more [] c (fields [] rest) ∙ befores_fields (c ∷ []) [] rest in
       (c, found.2, record_last s c rest found.1 ∙ sym alone)
-  field_found Wrong Some e = absurd (Some refl)
+  field_found Wrong not_wrong e = absurd (not_wrong refl)
 
   -- none is
   pub none_found : (a : Next) → a ≡ Wrong → stepped a body rest ≡ standing_step (next_field s) → read_record s ≡ no_record

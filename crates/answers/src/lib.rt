@@ -53,14 +53,14 @@ fn put_verdict(out: &mut [u8], at: usize, verdict: Verdict) -> usize
 }
 
 // The line of what a refusal carries is put at a place.
-fn put_carried(out: &mut [u8], at: usize, carried: Carried) -> usize
+fn put_carried(out: &mut [u8], at: usize, carried: Option<Carried>) -> usize
     requires { at + length (carried_line carried) ≤ length out.old }
     ensures { Puts out.old at (carried_line carried) result out.new }
 {
     match carried {
-        Carried::Word(i) => print::put_line(out, at, b"word=", i),
-        Carried::Line(l) => print::put_line(out, at, b"line=", l),
-        Carried::Record(l) => print::put_line(out, at, b"record=", l),
+        Some(Carried::Word(i)) => print::put_line(out, at, b"word=", i),
+        Some(Carried::Line(l)) => print::put_line(out, at, b"line=", l),
+        Some(Carried::Record(l)) => print::put_line(out, at, b"record=", l),
         None => at,
     }
 }

@@ -1,10 +1,10 @@
 // A table and its tasks: whether it is one, refusals 1 to 4; the one reader of a task; and words that go to its start.
 #![tactic(auto)]
 
-ghost use Rattle.std.specs.Prelude.{◌≡◌, ◌+◌, ◌*◌, ◌≤◌, ◌<◌, ◌++◌, length, take, drop};
+ghost use Rattle.std.specs.Prelude.{◌≡◌, ◌+◌, ◌*◌, ◌≤◌, ◌<◌, ◌++◌, length, take, drop, Some, None, MatchResult};
 ghost use Rattle.rules.specs.Numbers.{table_most};
 ghost use Rattle.rules.specs.Refusals.{answering};
-ghost use Rattle.rules.specs.Table.{word_least, in_range, out_of_range, table_answer, task_in};
+ghost use Rattle.rules.specs.Table.{word_least, in_range, out_of_range, table_refusal, table_answer, task_in, task_count, ValidTable};
 
 use rules::{Refusal, Task};
 
@@ -83,6 +83,41 @@ pub fn check_table(table: &[u32]) -> Result<(), Refusal>
         return Err(Refusal::TooManyWords);
     }
     check_words(table)
+}
+
+// The tasks of a table that is not refused, in the words that were lent.
+#[derive(Clone, Copy)]
+pub struct Tasks<'a> {
+    pub words: &'a [u32],
+    pub ghost valid: { ValidTable words.now },
+}
+
+impl<'a> Tasks<'a> {
+    // The tasks of a table; or its refusal, 1 to 4.
+    pub fn new(words: &'a [u32]) -> Result<Tasks<'a>, Refusal>
+        ensures {
+            MatchResult result (λ tasks. (table_refusal words.now ≡ None) × (tasks.words.now ≡ words.now))
+            (λ why. table_refusal words.now ≡ Some why)
+        }
+    {
+        check_table(words)?;
+        Ok(Tasks { words })
+    }
+
+    // How many there are.
+    pub fn count(self) -> usize
+        ensures { result ≡ task_count self.entry.words.now }
+    {
+        self.words.len() / 4
+    }
+
+    // The task of number i.
+    pub fn task(self, i: usize) -> Task
+        requires { i < task_count self.words.now }
+        ensures { result ≡ task_in self.entry.words.now i }
+    {
+        task_at(self.words, i)
+    }
 }
 
 // The first n words of from go to the start of to.

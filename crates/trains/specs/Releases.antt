@@ -1,10 +1,8 @@
 -- When a job of a train is released, if the train has it.
-use Rattle.std.specs.Prelude.{◌≡◌, ℕ, ◌+◌, ◌*◌, ◌^◌, ◌≤◌, ◌<◌}
+use Rattle.std.specs.Prelude.{◌≡◌, ℕ, ◌+◌, ◌*◌, ◌^◌, ◌≤◌, ◌<◌, Option, Some, None}
 use Rattle.rules.specs.Demand.{count_within}
 use Rattle.rules.specs.Jobs.{Train, count_before}
 use Rattle.rules.specs.declared.Task.{Task}
-use Rattle.trains.specs.declared.Release.{Release}
-use Rattle.trains.specs.declared.Release.TheVariants.{At, Never}
 
 -- the train from R on of the jobs that are released before an end tick
 abbrev pub released_before : ℕ → Task → Train
@@ -22,10 +20,10 @@ pub record Coming (x : Train) (T q r : ℕ) : Type 0 where
   pub early : r < 2 ^ 33
 
 -- what is said of job q of a train: when it is released, or that there is none
-pub record Comes (x : Train) (T q : ℕ) (said : Release) : Type 0 where
-  pub at : (r : ℕ) → said ≡ At r → Coming x T q r
-  pub never : said ≡ Never → x.count ≤ q
+pub record Comes (x : Train) (T q : ℕ) (said : Option ℕ) : Type 0 where
+  pub at : (r : ℕ) → said ≡ Some r → Coming x T q r
+  pub never : said ≡ None → x.count ≤ q
 
 -- what is said of job q of the train of one job, at 0, whatever the period
-abbrev pub ComesOnce : ℕ → Release → Type 0
+abbrev pub ComesOnce : ℕ → Option ℕ → Type 0
 ComesOnce q said = (T : ℕ) → Comes (record { first = 0; count = 1 }) T q said

@@ -7,15 +7,7 @@ ghost use Rattle.rules.specs.Demand.{count_within};
 ghost use Rattle.rules.specs.Jobs.{count_before, named_train, plan_train};
 ghost use Rattle.trains.specs.Releases.{Comes, ComesOnce, released_before, due_within};
 
-use arith::wide;
 use rules::{Plan, Task};
-
-// When a job is released, if the train has it.
-#[derive(Clone, Copy)]
-pub enum Release {
-    At(u64),
-    Never,
-}
 
 // How many jobs of a task are released before an end tick.
 fn count_before(task: Task, end: u32) -> u32
@@ -46,13 +38,10 @@ fn named_count(length: u32, blocker: Option<u32>, k: usize, task: Task) -> u32
     requires { Sound task }
     ensures { result ≡ (named_train length blocker k task).count }
 {
-    let Some(b) = blocker else {
-        return count_within(task, length);
-    };
-    if k == b as usize {
-        return 1;
+    match blocker {
+        Some(b) if k == b as usize => 1,
+        _ => count_within(task, length),
     }
-    count_within(task, length)
 }
 
 // How many jobs task k has under a plan.
@@ -70,63 +59,53 @@ pub fn count_of(plan: Plan, k: usize, task: Task) -> u32
 fn periods(q: u32, period: u32) -> u64
     ensures { (result ≡ q * period) × (result < 2 ^ 64 - 2 ^ 32) }
 {
-    wide(q) * wide(period)
+    u64::from(q) * u64::from(period)
 }
 
 // When job q of a task is released, if that is before an end tick.
-fn release_before(task: Task, end: u32, q: u32) -> Release
+fn release_before(task: Task, end: u32, q: u32) -> Option<u64>
     requires { Sound task }
     ensures { Comes (released_before end task) task.T q result }
 {
-    let at = wide(task.R) + periods(q, task.T);
-    if at < wide(end) {
-        Release::At(at)
-    } else {
-        Release::Never
-    }
+    let at = u64::from(task.R) + periods(q, task.T);
+    if at < u64::from(end) { Some(at) } else { None }
 }
 
 // When job q of a task that comes from a tick on is released, if it is due within a length from then.
-fn release_within(task: Task, length: u32, first: u32, q: u32) -> Release
+fn release_within(task: Task, length: u32, first: u32, q: u32) -> Option<u64>
     requires { Sound task }
     ensures { Comes (due_within first length task) task.T q result }
 {
     let after = periods(q, task.T);
-    if wide(task.D) + after <= wide(length) {
-        Release::At(wide(first) + after)
+    if u64::from(task.D) + after <= u64::from(length) {
+        Some(u64::from(first) + after)
     } else {
-        Release::Never
+        None
     }
 }
 
 // When job q of a task that comes once, at 0, is released, whatever its period.
-fn release_once(q: u32) -> Release
+fn release_once(q: u32) -> Option<u64>
     ensures { ComesOnce q result }
 {
-    if q == 0 {
-        Release::At(0)
-    } else {
-        Release::Never
-    }
+    if q == 0 { Some(0) } else { None }
 }
 
 // When job q of task k is released in the pattern that a length names: a blocker comes once, at 0, and the others from 1 on; without one all come
 // from 0 on.
-fn named_release(length: u32, blocker: Option<u32>, k: usize, task: Task, q: u32) -> Release
+fn named_release(length: u32, blocker: Option<u32>, k: usize, task: Task, q: u32) -> Option<u64>
     requires { Sound task }
     ensures { Comes (named_train length blocker k task) task.T q result }
 {
-    let Some(b) = blocker else {
-        return release_within(task, length, 0, q);
-    };
-    if k == b as usize {
-        return release_once(q);
+    match blocker {
+        None => release_within(task, length, 0, q),
+        Some(b) if k == b as usize => release_once(q),
+        Some(_) => release_within(task, length, 1, q),
     }
-    release_within(task, length, 1, q)
 }
 
 // When job q of task k is released under a plan, if its train has that job.
-pub fn release_of(plan: Plan, k: usize, task: Task, q: u32) -> Release
+pub fn release_of(plan: Plan, k: usize, task: Task, q: u32) -> Option<u64>
     requires { Sound task }
     ensures { Comes (plan_train plan k task) task.T q result }
 {

@@ -4,10 +4,10 @@ use Rattle.trains.proofs.Released.{before_at, before_never}
 use Rattle.trains.proofs.release_before.Goals as goal
 
 -- it is
-pub returns-then-at-wide : goal.returns-then-at-wide
-returns-then-at-wide c =
+pub returns-then-at-from : goal.returns-then-at-from
+returns-then-at-from c =
     before_at c.args.task c.requires c.args.q c.args.end _ (omega arith) (omega arith) (omega arith)
 
 -- it is not
-pub returns-else-at-wide : goal.returns-else-at-wide
-returns-else-at-wide c = before_never c.args.task c.requires c.args.q c.args.end (omega arith)
+pub returns-else-at-from : goal.returns-else-at-from
+returns-else-at-from c = before_never c.args.task c.requires c.args.q c.args.end (omega arith)

@@ -1,8 +1,9 @@
 -- Bytes that are known, of a reader and a writer: one more call's bytes stand behind those of the calls before.
-use Rattle.std.proofs.Common.{◌≡◌, ℕ, ◌+◌, ◌-◌, ◌≤◌, List, [], ◌++◌, Option, None, Some, length, take, drop, sym, ap, subst, min, ◌∙◌, append_assoc, append-nil, arith, length-take-le}
+use Rattle.std.proofs.Common.{◌≡◌, ℕ, ◌+◌, ◌-◌, ◌≤◌, List, [], ◌++◌, Option, None, Some, Result, Ok, Err, length, take, drop, sym, ap, subst, min, ◌∙◌, append_assoc, append-nil, arith, length-take-le}
 use Rattle.std.specs.Io.KnownBytes.{Appends, Consumes}
 use Rattle.stdio.specs.Input.{TookBeginning, Wrote}
-use Rattle.stdio.specs.declared.Written.{Written}
+use Rattle.stdio.specs.declared.OutputError.{OutputError}
+use Rattle.stdio.specs.declared.OutputError.TheVariants.{Cut, Unread}
 use borrow.Rule.Slice.PartMut.{put_mid, post_of}
 use Rattle.std.proofs.Math.Seq.{take-append-add, take-length}
 use Rattle.std.proofs.lemmas.List.{take_min, take_rest}
@@ -56,7 +57,7 @@ pub beginning_all : (a b : Option (List ℕ)) (all : List ℕ) → Appends a b a
 beginning_all a b all took = (length all, subst (Appends a b) (sym (take-length all)) took)
 
 -- what was written is a beginning, whatever stopped it
-pub beginning_written : (a b : Option (List ℕ)) (written : Written) (bytes : List ℕ) → Wrote a b written bytes → TookBeginning a b bytes
-beginning_written a b Written.Whole bytes wrote = beginning_all a b bytes wrote
-beginning_written a b (Written.Cut n) bytes wrote = (n, wrote.1)
-beginning_written a b (Written.Unread n) bytes wrote = (n, wrote.1)
+pub beginning_written : (a b : Option (List ℕ)) (written : Result (Unit {0}) OutputError) (bytes : List ℕ) → Wrote a b written bytes → TookBeginning a b bytes
+beginning_written a b (Ok u) bytes wrote = beginning_all a b bytes wrote
+beginning_written a b (Err (Cut n)) bytes wrote = (n, wrote.1)
+beginning_written a b (Err (Unread n)) bytes wrote = (n, wrote.1)

@@ -2,10 +2,10 @@
 // streams are lent by the caller: what is promised holds of any reader and writer. And how many arguments there are.
 #![tactic(auto)]
 
-ghost use Rattle.std.specs.Prelude.{◌≡◌, ◌<◌, length};
+ghost use Rattle.std.specs.Prelude.{◌≡◌, ◌+◌, ◌<◌, IsTrue, length};
 ghost use Rattle.std.specs.Process.{exit_status};
 ghost use Rattle.rules.specs.Numbers.{input_most};
-ghost use Rattle.stdio.specs.Input.{Within, Took, Wrote, TookBeginning, status_after};
+ghost use Rattle.stdio.specs.Input.{Within, Took, Wrote, TookBeginning, Gives, status_after};
 
 use std::env::{Env, FillError};
 use std::io::{Error, ErrorKind, Read, Write};
@@ -18,102 +18,91 @@ const TRIES: u32 = 10000000;
 // 128 and the number of the signal for a reader that went away.
 const UNREAD_STATUS: u8 = 141;
 
-// What was read of standard input: all of it, so many bytes; or it fills the buffer; or a read failed after so many.
-#[derive(Clone, Copy)]
-pub enum Input {
-    Whole(usize),
+// Why standard input was not read whole: it fills the buffer; or a read failed after so many bytes.
+#[derive(Clone, Copy, PartialEq, Eq)]
+pub enum InputError {
     TooLong,
     Failed(usize),
 }
 
-// What was written of bytes on standard output: all of them; or so many, before a write failed; or so many, before nobody was there to read them.
-#[derive(Clone, Copy)]
-pub enum Written {
-    Whole,
+// Why bytes were not written whole on standard output: a write failed after so many; or, after so many, nobody was there to read them.
+#[derive(Clone, Copy, PartialEq, Eq)]
+pub enum OutputError {
     Cut(usize),
     Unread(usize),
 }
 
-// Whether a write failed because nobody is there to read.
-fn is_unread(why: &Error) -> bool {
-    match why.kind() {
-        ErrorKind::BrokenPipe => true,
-        _ => false,
-    }
-}
+// How often a call that moves nothing is still tried again.
+#[derive(Drop)]
+struct Tries(u32);
 
-// Whether the call that just failed is worth another try: it was interrupted, or it would have had to wait. Then others may run first.
-fn may_try_again(why: &Error) -> bool {
-    match why.kind() {
-        ErrorKind::Interrupted => true,
-        ErrorKind::WouldBlock => {
-            thread::yield_now();
-            true
+impl Tries {
+    // Whether the call that just failed is tried again: it was interrupted, or it would have had to wait. Then others may run first.
+    fn again(&mut self, why: &Error) -> bool
+        ensures spent { IsTrue result → self.new.0 + 1 ≡ self.old.0 }
+    {
+        let waits = why.kind() == ErrorKind::WouldBlock;
+        if self.0 == 0 || !(waits || why.kind() == ErrorKind::Interrupted) {
+            return false;
         }
-        _ => false,
+        if waits {
+            thread::yield_now();
+        }
+        self.0 -= 1;
+        true
     }
 }
 
 // Standard input is read to its end, however many reads that takes. The buffer is longer than the longest input, so one that fills it is too long.
-pub fn read_input<R: Read>(input: &mut R, buf: &mut [u8]) -> Input
+pub fn read_input<R: Read>(input: &mut R, buf: &mut [u8]) -> Result<usize, InputError>
     requires { input_most < length buf.old }
     ensures within { Within result (length buf.new) }
     ensures took { Took (R.remaining input.old) (R.remaining input.new) result buf.new }
 {
     let mut at: usize = 0;
-    let mut tries = TRIES;
+    let mut tries = Tries(TRIES);
     while at < buf.len() {
         match input.read(&mut buf[at..]) {
-            Ok(0) => return Input::Whole(at),
+            Ok(0) => return Ok(at),
             Ok(more) => {
                 at += more;
-                tries = TRIES;
+                tries = Tries(TRIES);
             }
-            Err(why) => {
-                if tries == 0 || !may_try_again(&why) {
-                    return Input::Failed(at);
-                }
-                tries -= 1;
-            }
+            Err(why) if tries.again(&why) => {}
+            Err(_) => return Err(InputError::Failed(at)),
         }
     }
-    Input::TooLong
+    Err(InputError::TooLong)
 }
 
 // The bytes are written to standard output, however many writes that takes.
-pub fn write_output<W: Write>(output: &mut W, bytes: &[u8]) -> Written
+pub fn write_output<W: Write>(output: &mut W, bytes: &[u8]) -> Result<(), OutputError>
     ensures { Wrote (W.contents output.old) (W.contents output.new) result bytes.now }
 {
     let mut at: usize = 0;
-    let mut tries = TRIES;
+    let mut tries = Tries(TRIES);
     while at < bytes.len() {
         match output.write(&bytes[at..]) {
-            Ok(0) => return Written::Cut(at),
+            Ok(0) => return Err(OutputError::Cut(at)),
             Ok(more) => {
                 at += more;
-                tries = TRIES;
+                tries = Tries(TRIES);
             }
-            Err(why) => {
-                if is_unread(&why) {
-                    return Written::Unread(at);
-                }
-                if tries == 0 || !may_try_again(&why) {
-                    return Written::Cut(at);
-                }
-                tries -= 1;
-            }
+            Err(why) if why.kind() == ErrorKind::BrokenPipe => return Err(OutputError::Unread(at)),
+            Err(why) if tries.again(&why) => {}
+            Err(_) => return Err(OutputError::Cut(at)),
         }
     }
-    Written::Whole
+    Ok(())
 }
 
 // The exit status of a program that wrote so much: where its reader went away, the one that a shell gives a program which is ended by that.
-pub fn status_of(written: Written) -> ExitCode
+pub fn status_of(written: Result<(), OutputError>) -> ExitCode
     ensures { exit_status result ≡ status_after written }
 {
     match written {
-        Written::Whole | Written::Cut(_) => ExitCode::SUCCESS,
-        Written::Unread(_) => ExitCode::from(UNREAD_STATUS),
+        Err(OutputError::Unread(_)) => ExitCode::from(UNREAD_STATUS),
+        Ok(()) | Err(OutputError::Cut(_)) => ExitCode::SUCCESS,
     }
 }
 
@@ -128,21 +117,39 @@ pub fn tell_count<E: Write>(error: &mut E, n: usize) {
 }
 
 // A read that failed is told on standard error, with what nothing was.
-pub fn tell_read<E: Write>(error: &mut E, read: usize, undone: &[u8]) {
-    tell(error, b"tilecheck: cannot read standard input: ");
-    tell_count(error, read);
-    tell(error, b" bytes were read, nothing was ");
-    tell(error, undone);
-    tell(error, b"\n");
+fn tell_read<E: Write>(error: &mut E, read: usize, undone: &str) {
+    let _ = writeln!(
+        error,
+        "tilecheck: cannot read standard input: {read} bytes were read, nothing was {undone}"
+    );
 }
 
 // A write that failed is told on standard error.
 fn tell_write<E: Write>(error: &mut E, written: usize, all: usize) {
-    tell(error, b"tilecheck: cannot write standard output: ");
-    tell_count(error, written);
-    tell(error, b" of ");
-    tell_count(error, all);
-    tell(error, b" bytes were written\n");
+    let _ = writeln!(
+        error,
+        "tilecheck: cannot write standard output: {written} of {all} bytes were written"
+    );
+}
+
+// What standard input gives: its bytes, or as many as the buffer holds; where a read failed, nothing, and that is told, with what nothing was.
+pub fn input_or_tell<'a, R: Read, E: Write>(
+    input: &mut R,
+    error: &mut E,
+    buf: &'a mut [u8],
+    undone: &str,
+) -> Option<&'a [u8]>
+    requires { input_most < length buf.old }
+    ensures { Gives (R.remaining input.old) (length buf.old) result }
+{
+    match read_input(input, buf) {
+        Ok(n) => Some(&buf[..n]),
+        Err(InputError::TooLong) => Some(buf),
+        Err(InputError::Failed(n)) => {
+            tell_read(error, n, undone);
+            None
+        }
+    }
 }
 
 // The bytes are printed on standard output; where they are not written whole, that is told. The answer is the program's exit status.
@@ -150,18 +157,13 @@ pub fn print_bytes<W: Write, E: Write>(output: &mut W, error: &mut E, bytes: &[u
     ensures { TookBeginning (W.contents output.old) (W.contents output.new) bytes.now }
 {
     let written = write_output(output, bytes);
-    match written {
-        Written::Whole => {}
-        Written::Cut(n) | Written::Unread(n) => tell_write(error, n, bytes.len()),
+    if let Err(OutputError::Cut(n) | OutputError::Unread(n)) = written {
+        tell_write(error, n, bytes.len());
     }
     status_of(written)
 }
 
 // Whether the program was called with an argument i; argument 0 is its own name.
 pub fn has_argument<A: Env>(rt: &A, i: usize) -> bool {
-    let mut none = [0u8; 0];
-    match rt.arg(i, &mut none) {
-        Err(FillError::NotPresent) => false,
-        Ok(_) | Err(FillError::TooLong) => true,
-    }
+    !matches!(rt.arg(i, &mut []), Err(FillError::NotPresent))
 }

@@ -6,8 +6,8 @@ use Rattle.stdio.proofs.read_input.Given as goal
 
 abbrev pub invariant-loop-at : goal.invariant-loop-at
 invariant-loop-at g l =
-    (l.at ≤ length l.buf) × (length l.buf ≡ length l.initial.buf) × (l.tries ≤ 10000000)
+    (l.at ≤ length l.buf) × (length l.buf ≡ length l.initial.buf) × (l.tries.0 ≤ 10000000)
     × Consumes (g.R.Read.remaining l.initial.input) (g.R.Read.remaining l.input) (take l.at l.buf)
 
 abbrev pub decreases-loop-at : goal.decreases-loop-at
-decreases-loop-at g l = (length l.initial.buf - l.at) * 10000001 + l.tries
+decreases-loop-at g l = (length l.initial.buf - l.at) * 10000001 + l.tries.0

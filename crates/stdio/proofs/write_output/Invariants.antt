@@ -6,7 +6,7 @@ use Rattle.stdio.proofs.write_output.Given as goal
 
 abbrev pub invariant-loop-at : goal.invariant-loop-at
 invariant-loop-at g l =
-    (l.at ≤ length l.bytes) × (l.tries ≤ 10000000) × Appends (g.W.Write.contents l.initial.output) (g.W.Write.contents l.output) (take l.at l.bytes)
+    (l.at ≤ length l.bytes) × (l.tries.0 ≤ 10000000) × Appends (g.W.Write.contents l.initial.output) (g.W.Write.contents l.output) (take l.at l.bytes)
 
 abbrev pub decreases-loop-at : goal.decreases-loop-at
-decreases-loop-at g l = (length l.bytes - l.at) * 10000001 + l.tries
+decreases-loop-at g l = (length l.bytes - l.at) * 10000001 + l.tries.0

@@ -13,5 +13,5 @@ module _ (w : List ℕ) where
   pub keeps : (a : Result Verdict Refusal) → a ≡ verdict_answer w → KeptBy w a
   keeps a e = subst (KeptBy w) (sym e) (kept_by w)
 
-  pub one_answer : One Result Verdict Refusal (λ a. (a ≡ verdict_answer w) × KeptBy w a)
+  pub one_answer : One (Result Verdict Refusal) (λ a. (a ≡ verdict_answer w) × KeptBy w a)
   one_answer = record { outcome = verdict_answer w; as_due = (refl, kept_by w); no_other = λ a c. c.0 }

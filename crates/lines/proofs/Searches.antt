@@ -1,45 +1,58 @@
--- What the loops and calls on one line lean on, beside the laws of the definitions that read; and that each promise leaves one outcome.
-use mathlib.Core.Path.{◌≡◌, refl, sym, ap, ◌∙◌}
-use Prim.Native.Nat.{ℕ, suc, ◌+◌, ◌-◌, ◌*◌, ◌^◌, ◌≤◌, ◌<◌}
-use native.Mathlib.Omega.{arith}
-use mathlib.Core.List.{List}
-use mathlib.Core.Bool.{Bool, true, false}
-use Rattle.rules.specs.Text.{bad, after_key, read_number, line_end, read_line}
-use Rattle.rules.proofs.ReadSteps.{line_no_key, line_after_key}
-use Rattle.lines.specs.Line.{found, seen, SkipsOne, FindsOne}
-use Rattle.lines.specs.declared.Number.{Number}
-use Rattle.lines.specs.declared.Number.TheVariants.{Value, Wrong}
+-- What the calls on one line lean on, beside the laws of the definitions that read; and that each promise leaves one outcome.
+use Rattle.std.proofs.Common.{◌≡◌, ◌≢◌, ℕ, ◌+◌, ◌-◌, ◌*◌, ◌^◌, ◌<◌, List, [], ◌∷◌, ◌++◌, Option, Some, None, MatchOption, add-one, refl, sym, ap, ◌∙◌, arith}
+use Rattle.std.specs.Borrow.{Bor}
+use Rattle.rules.specs.Text.{got, bad, after_key, more_digits, line_end}
+use Rattle.rules.proofs.Booleans.{impossible}
+use Rattle.rules.proofs.LineTrips.{key_there, key_back}
+use Rattle.rules.proofs.ReadSteps.{more_other, more_step, end_none, end_wrong, end_right}
+use Rattle.lines.specs.Line.{Skips, NoDigit, IsValueOf, SkipsOne, FindsOne}
 
-pub value_is_not_wrong : {A : Type 0} {v : ℕ} → Value v ≡ Wrong → A
-value_is_not_wrong e = let z : ◌≡◌ {A = ℕ} 0 1 = cc in absurd (omega arith)
+-- a key, by the lists that begin with it
+module _ (key s : List ℕ) where
+  pub key_not_there : ((rest : List ℕ) → s ≢ key ++ rest) → after_key key s ≡ None
+  key_not_there n = by_search (after_key key s) refl
+    where
+      by_search : (o : Option (List ℕ)) → after_key key s ≡ o → after_key key s ≡ None
+      by_search None e = e
+      by_search (Some a) e = absurd (n a (key_back key s a e))
+
+  pub skips : (answer : Option (Bor (List ℕ))) → MatchOption answer ((rest : List ℕ) → s ≢ key ++ rest) (λ x. s ≡ key ++ x.now) → Skips key s answer
+  skips None n = key_not_there n
+  skips (Some x) e = rw e (key_there key x.now)
+
+-- byte 10 after a number, as a key
+module _ (v : ℕ) (t : List ℕ) where
+  pub no_end : after_key (10 ∷ []) t ≡ None → line_end (got v t) ≡ bad
+  no_end e = by_bytes t refl e
+    where
+      by_bytes : (u : List ℕ) → t ≡ u → after_key (10 ∷ []) t ≡ None → line_end (got v t) ≡ bad
+      by_bytes [] f e = rw f (end_none v [] refl)
+      by_bytes (b ∷ u) f e = rw f (end_wrong v (b ∷ u) (omega arith) (λ ten. impossible (let z : None ≡ Some u = sym e ∙ ap (after_key (10 ∷ [])) f ∙ ap (λ (x : ℕ). after_key (10 ∷ []) (x ∷ u)) ten ∙ key_there (10 ∷ []) u in cc)))
+
+  pub line_ends : (rest : List ℕ) → after_key (10 ∷ []) t ≡ Some rest → line_end (got v t) ≡ got v rest
+  line_ends rest e = let f : t ≡ 10 ∷ rest = key_back (10 ∷ []) t rest e in rw f (end_right v (10 ∷ rest) (omega arith) refl)
+
+-- the digits after those that make v, by the next byte
+module _ (n v : ℕ) {s : List ℕ} {b : ℕ} {rest : List ℕ} (e : s ≡ b ∷ rest) where
+  pub no_digit_next : NoDigit b → more_digits n v s ≡ got v s
+  no_digit_next h = rw e (more_other v (b ∷ rest) (omega arith) n h)
+
+  pub digit_next : {d : ℕ} (m : ℕ) → IsValueOf b d → n ≡ m + 1 → more_digits n v s ≡ more_digits m (v * 10 + d) rest
+  digit_next m h p = let one_less : n - 1 ≡ m = omega arith in rw (e, h.1, ← one_less) (more_step v (b ∷ rest) (omega arith) n (omega arith) h.0)
 
 -- what is read is below 10 to the number of digits
-pub room_step : (n v d : ℕ) → 0 < n → n ≤ 4 → d < 10 → v < 10 ^ (5 - n) → v * 10 + d < 10 ^ (5 - (n - 1))
-room_step n v d p h m l = let e : 5 - (n - 1) ≡ suc (5 - n) = omega arith in rw e (omega arith)
-
--- a line, by what the calls for its parts said
-module _ (key s a : List ℕ) (f : Bool) (e : found f a ≡ after_key key s) where
-  pub no_key : f ≡ false → read_line key s ≡ bad
-  no_key n = line_no_key key s (sym e ∙ ap (λ (b : Bool). found b a) n)
-
-  pub after_key_law : f ≡ true → (n m : Number) (b : List ℕ) → seen n b ≡ read_number a → n ≡ m → read_line key s ≡ line_end (seen m b)
-  after_key_law y n m b g h = line_after_key key s a (sym e ∙ ap (λ (b : Bool). found b a) y) ∙ ap line_end (sym g ∙ ap (λ (k : Number). seen k b) h)
+pub room_step : (n v d : ℕ) → v < 10 ^ (n + 1) → d < 10 → v * 10 + d < 10 ^ (n + 1 + 1)
+room_step n v d l m = rw (add-one (n + 1)) (omega arith)
 
 -- one outcome each
 pub skips_one : SkipsOne
-skips_one key s old a b r q x y = by_answers a b (x.says ∙ sym y.says) x.keeps y.keeps
-  where
-    by_answers : (a b : Bool) → found a r ≡ found b q → (a ≡ false → r ≡ old) → (b ≡ false → q ≡ old) → (a ≡ b) × (r ≡ q)
-    by_answers true true e k l = (refl, (cc))
-    by_answers true false e k l = let z : ◌≡◌ {A = ℕ} 0 1 = cc in absurd (omega arith)
-    by_answers false true e k l = let z : ◌≡◌ {A = ℕ} 0 1 = cc in absurd (omega arith)
-    by_answers false false e k l = (refl, k refl ∙ sym (l refl))
+skips_one key s None None x y = refl
+skips_one key s None (Some q) x y = impossible cc
+skips_one key s (Some r) None x y = impossible cc
+skips_one key s (Some r) (Some q) x y = cc
 
 pub finds_one : FindsOne
-finds_one due old a b r q x y = by_answers a b (x.says ∙ sym y.says) x.keeps y.keeps
-  where
-    by_answers : (a b : Number) → seen a r ≡ seen b q → (a ≡ Wrong → r ≡ old) → (b ≡ Wrong → q ≡ old) → (a ≡ b) × (r ≡ q)
-    by_answers (Value v) (Value w) e k l = let f : v ≡ w = cc in (ap Value f, (cc))
-    by_answers (Value v) Wrong e k l = let z : ◌≡◌ {A = ℕ} 0 1 = cc in absurd (omega arith)
-    by_answers Wrong (Value w) e k l = let z : ◌≡◌ {A = ℕ} 0 1 = cc in absurd (omega arith)
-    by_answers Wrong Wrong e k l = (refl, k refl ∙ sym (l refl))
+finds_one due None None x y = refl
+finds_one due None (Some q) x y = impossible cc
+finds_one due (Some r) None x y = impossible cc
+finds_one due (Some r) (Some q) x y = cc

@@ -1,30 +1,25 @@
 -- `lines::more_digits` meets its contract: each turn is a step of `more_digits`, and the number has at most five digits, so it does not wrap.
-use Rattle.std.proofs.Common.{◌≡◌, sym, ◌∙◌, arith}
-use Rattle.rules.proofs.ReadSteps.{more_none, more_other, more_step, more_end}
-use Rattle.rules.proofs.Slices.{part}
-use Rattle.lines.proofs.Searches.{room_step}
+use Rattle.std.proofs.Common.{◌∙◌, arith}
+use Rattle.rules.proofs.ReadSteps.{more_none, more_end}
+use Rattle.lines.proofs.Searches.{no_digit_next, digit_next, room_step}
 use Rattle.lines.proofs.more_digits.Goals as goal
 
 -- no byte is left
-pub returns-then-t-eq0 : goal.returns-then-t-eq0
-returns-then-t-eq0 c = sym (more_none _ _ c.loop-left.left c.if-t-eq0.true) ∙ c.loop-left.invariant.0
+pub returns-in_default : goal.returns-in_default
+returns-in_default c = c.loop.invariant.reads ∙ more_none _ _ _ c.in_default.ensures.cases
 
 -- no digit is next
-pub returns-then-not-more : goal.returns-then-not-more
-returns-then-not-more c =
-    sym (more_other _ c.loop-left.t.now (omega arith) c.loop-left.left (sym c.if-not-more.ensures)) ∙ c.loop-left.invariant.0
+pub returns-in_default-digit : goal.returns-in_default-digit
+returns-in_default-digit c = c.loop.invariant.reads ∙ no_digit_next _ c.loop.v c.in-Some.ensures.cases.0 c.in_default-digit.ensures
 
-pub loop-left-preserved : goal.loop-left-preserved
-loop-left-preserved c =
-    let at = c.loop-left in
-    let left = at.t.now in
-    let value = c.digit_value.ensures in (
-      rw (part 1 left, value.0) (sym (more_step at.v left (omega arith) at.left (omega arith) (sym c.if-not-more.ensures)) ∙ at.invariant.0),
-      (omega arith, room_step at.left at.v _ (omega arith) at.invariant.1.0 value.1 at.invariant.1.1),
-    )
+pub loop-preserved : goal.loop-preserved
+loop-preserved c =
+    let at = c.loop in
+    record {
+      reads = at.invariant.reads ∙ digit_next _ at.v c.in-Some.ensures.cases.0 _ c.in-Some-digit.ensures (omega arith);
+      short = room_step at.counter at.v _ at.invariant.short c.in-Some-digit.ensures.2;
+    }
 
 -- five digits are read
 pub returns : goal.returns
-returns c =
-    let none_due : c.loop-left.left ≡ 0 = omega arith in
-    sym (more_end _ _ c.loop-left.left none_due) ∙ c.loop-left.invariant.0
+returns c = c.loop.invariant.reads ∙ more_end _ _ _ (omega arith)

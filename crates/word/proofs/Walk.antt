@@ -1,6 +1,6 @@
 -- The walk over a word's digits: at each byte the judgement of what is left is that of the whole word. A value that is above the greatest only
 -- grows with more digits, and another byte makes the word wrong too, so that the walk may stop there.
-use Rattle.std.specs.Prelude.{if◌then◌else◌}
+use Rattle.std.specs.Prelude.{if◌then◌else◌, Some, None}
 use mathlib.Core.Path.{◌≡◌, refl, sym, ◌∙◌}
 use Prim.Native.Nat.{ℕ, ◌+◌, ◌-◌, ◌*◌, ◌≤◌, ◌<◌}
 use native.Mathlib.Numerals.{add-one}
@@ -10,19 +10,23 @@ use mathlib.Core.Bool.{Bool, true, false}
 use lib.ListN.{length, drop, get_or, drop_of_length-le}
 use lib.Seq.{drop-cons}
 use borrow.Author.Tests.{le-leb, lt-leb}
+use Rattle.std.specs.Char.{is_ascii_digit}
 use Rattle.rules.specs.Text.{digit}
 use Rattle.rules.proofs.ReadSteps.{empty, first_of}
 use Rattle.word.specs.Word.{value_from, judged, number_in}
-use Rattle.word.specs.declared.Decimal.TheVariants.{Number, Wrong}
-use Rattle.std.specs.Prelude.{None}
+
+-- std's digits are the rules'
+pub as_std : (b : ℕ) {d v : Bool} → d ≡ is_ascii_digit b → d ≡ v → digit b ≡ v
+unfolding digit
+as_std b e f = sym e ∙ f
 
 -- a value above the greatest stays wrong, whatever follows
-great : (most v : ℕ) (s : List ℕ) → most < v → judged most (value_from v s) ≡ Wrong
+great : (most v : ℕ) (s : List ℕ) → most < v → judged most (value_from v s) ≡ None
 unfolding judged value_from
 great most v [] h = rw (lt-leb v most h)
 great most v (b ∷ s) h = go (digit b) (great most (v * 10 + (b - 48)) s (omega arith))
   where
-    go : (d : Bool) → judged most (value_from (v * 10 + (b - 48)) s) ≡ Wrong → judged most (if d then value_from (v * 10 + (b - 48)) s else None) ≡ Wrong
+    go : (d : Bool) → judged most (value_from (v * 10 + (b - 48)) s) ≡ None → judged most (if d then value_from (v * 10 + (b - 48)) s else None) ≡ None
     go true ih = ih
     go false ih = refl
 
@@ -34,7 +38,7 @@ module _ (word : List ℕ) (most : ℕ) where
     pub same : judged most (value_from v (drop i word)) ≡ number_in word most
 
   -- a word of no byte
-  pub at_none : length word ≡ 0 → Wrong ≡ number_in word most
+  pub at_none : length word ≡ 0 → None ≡ number_in word most
   unfolding number_in
   at_none e = rw (empty word e)
 
@@ -45,7 +49,7 @@ module _ (word : List ℕ) (most : ℕ) where
 
   module _ {v i : ℕ} (read : ReadTo v i) where
     -- no byte is left
-    pub at_end : length word ≤ i → Number v ≡ number_in word most
+    pub at_end : length word ≤ i → Some v ≡ number_in word most
     unfolding judged value_from
     at_end h = sym (rw (drop_of_length-le word h, le-leb v most read.small)) ∙ read.same
 
@@ -54,7 +58,7 @@ module _ (word : List ℕ) (most : ℕ) where
       open_word = rw (add-one, drop-cons word i 0)
 
       -- a byte that is no digit
-      pub at_other : digit (get_or word i 0) ≡ false → Wrong ≡ number_in word most
+      pub at_other : digit (get_or word i 0) ≡ false → None ≡ number_in word most
       unfolding judged value_from
       at_other e = sym (rw (open_word, e)) ∙ read.same
 
@@ -64,7 +68,7 @@ module _ (word : List ℕ) (most : ℕ) where
         unfolding judged value_from
         same_on = sym (rw (open_word, e)) ∙ read.same
 
-        pub at_great : most < v * 10 + (get_or word i 0 - 48) → Wrong ≡ number_in word most
+        pub at_great : most < v * 10 + (get_or word i 0 - 48) → None ≡ number_in word most
         at_great g = sym (great most (v * 10 + (get_or word i 0 - 48)) (drop (i + 1) word) g) ∙ same_on
 
         pub at_next : {w : ℕ} → w ≡ v * 10 + (get_or word i 0 - 48) → w ≤ most → ReadTo w (i + 1)

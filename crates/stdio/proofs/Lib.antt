@@ -1,3 +1,2 @@
--- What the calls on standard input tell their callers.
+-- What the calls on standard output tell their callers.
 pub mod Known
-pub mod Reading

@@ -9,7 +9,7 @@ use output::OUTPUT_MOST;
 use rules::INPUT_MOST;
 use std::io::{Read, Write};
 use std::process::ExitCode;
-use stdio::{Input, print_bytes, read_input, tell_read};
+use stdio::{input_or_tell, print_bytes};
 
 // What an input gives is printed.
 fn print_output<W: Write, E: Write>(stdout: &mut W, stderr: &mut E, input: &[u8]) -> ExitCode
@@ -28,16 +28,11 @@ fn judge_input<R: Read, W: Write, E: Write>(
 ) -> ExitCode
     ensures { PrintsOutput (R.remaining stdin.old) (W.contents stdout.old) (W.contents stdout.new) }
 {
-    let mut input = [0u8; INPUT_MOST + 1];
-    let read = read_input(stdin, &mut input);
-    match read {
-        Input::Whole(n) => print_output(stdout, stderr, &input[..n]),
-        Input::TooLong => print_output(stdout, stderr, &input),
-        Input::Failed(n) => {
-            tell_read(stderr, n, b"judged");
-            ExitCode::SUCCESS
-        }
-    }
+    let mut buf = [0u8; INPUT_MOST + 1];
+    let Some(input) = input_or_tell(stdin, stderr, &mut buf, "judged") else {
+        return ExitCode::SUCCESS;
+    };
+    print_output(stdout, stderr, input)
 }
 
 fn main(rt: HostRuntime) -> ExitCode {

@@ -4,12 +4,12 @@
 ghost use Rattle.exchange.specs.Exchange.{exchanged};
 ghost use Rattle.tilesheet.specs.Program.{PrintsMade, PrintsExchange};
 
-use exchange::{MADE_MOST, Made};
+use exchange::MADE_MOST;
 use rules::INPUT_MOST;
 use std::env::Env;
 use std::io::{Read, Write};
 use std::process::ExitCode;
-use stdio::{Input, has_argument, print_bytes, read_input, tell, tell_read};
+use stdio::{has_argument, input_or_tell, print_bytes, tell};
 use wording::Source;
 
 // Wrong use is told on standard error.
@@ -23,10 +23,7 @@ fn tell_use<E: Write>(stderr: &mut E) {
 // Whether argument 1 is --back.
 fn is_back<A: Env>(rt: &A) -> bool {
     let mut word = [0u8; 6];
-    match rt.arg(1, &mut word) {
-        Ok(n) => header::is_name(&word[..n], b"--back"),
-        Err(_) => false,
-    }
+    matches!(rt.arg(1, &mut word), Ok(n) if word[..n] == *b"--back")
 }
 
 // What is made of an input is printed; or what is wrong is told on standard error. The answer is the exit status.
@@ -39,10 +36,9 @@ fn print_made<W: Write, E: Write>(
     ensures { PrintsMade (exchanged source input.now) (W.contents stdout.old) (W.contents stdout.new) }
 {
     let mut out = [0u8; MADE_MOST];
-    let made = exchange::exchange(source, input, &mut out);
-    match made {
-        Made::Bytes(all) => print_bytes(stdout, stderr, &out[..all]),
-        Made::Told(all) => {
+    match exchange::exchange(source, input, &mut out) {
+        Ok(all) => print_bytes(stdout, stderr, &out[..all]),
+        Err(all) => {
             tell(stderr, &out[..all]);
             ExitCode::SUCCESS
         }
@@ -58,16 +54,11 @@ fn exchange_input<R: Read, W: Write, E: Write>(
 ) -> ExitCode
     ensures { PrintsExchange source (R.remaining stdin.old) (W.contents stdout.old) (W.contents stdout.new) }
 {
-    let mut input = [0u8; INPUT_MOST + 1];
-    let read = read_input(stdin, &mut input);
-    match read {
-        Input::Whole(n) => print_made(stdout, stderr, source, &input[..n]),
-        Input::TooLong => print_made(stdout, stderr, source, &input),
-        Input::Failed(n) => {
-            tell_read(stderr, n, b"made");
-            ExitCode::SUCCESS
-        }
-    }
+    let mut buf = [0u8; INPUT_MOST + 1];
+    let Some(input) = input_or_tell(stdin, stderr, &mut buf, "made") else {
+        return ExitCode::SUCCESS;
+    };
+    print_made(stdout, stderr, source, input)
 }
 
 fn main(rt: HostRuntime) -> ExitCode {

@@ -3,7 +3,7 @@ use mathlib.Core.Path.{◌≡◌, sym, ap, ap₂, ◌∙◌, subst}
 use Prim.Native.Nat.{ℕ, zero, suc, ◌+◌, ◌-◌, ◌/◌, ◌%◌, ◌≤◌, ◌<◌}
 use native.Mathlib.Omega.{arith}
 use mathlib.Core.List.{List, [], ◌∷◌, ◌++◌, append_assoc}
-use lib.ListN.{length, take, drop, set, length-append, take-append-drop}
+use lib.ListN.{length, take, drop, set, length-append, length-drop, take-append-drop}
 use lib.Seq.{set_split, take_at, drop_at, drop-append-add, drop-drop, length-take-le, take-set-le}
 use Rattle.rules.specs.Text.{line}
 use Rattle.rules.proofs.Digits.{lasts, lasts_none, lasts_more, lasts_length}
@@ -39,6 +39,10 @@ put_last l at vs b k e h =
 module _ (l : List ℕ) (at : ℕ) (vs : List ℕ) (h : at + length vs ≤ length l) where
   head_length : length (take at l ++ vs) ≡ at + length vs
   head_length = length-append (take at l) vs ∙ ap (λ (k : ℕ). k + length vs) (length-take-le at l (omega arith))
+
+  -- the list keeps its length
+  pub put_length : length (put l at vs) ≡ length l
+  put_length = omega (arith, length-append (take at l) (vs ++ drop (at + length vs) l), length-append vs (drop (at + length vs) l), length-take-le at l (omega arith), length-drop (at + length vs) l)
 
   put_split : put l at vs ≡ (take at l ++ vs) ++ drop (at + length vs) l
   put_split = sym (append_assoc (take at l) vs (drop (at + length vs) l))
@@ -79,6 +83,13 @@ put_digit l at zero v p h = absurd (omega arith)
 put_digit l at (suc k) v p h =
     let e : suc k - 1 ≡ k = omega arith in
     rw (e, lasts_more k v) (put_last l at (lasts k (v / 10)) (48 + v % 10) k (lasts_length k (v / 10)) (omega arith))
+
+-- the same by the place before which the digits that are left end
+pub put_digit_at : (l : List ℕ) (at e v : ℕ) → at < e → e ≤ length l → put (set l (e - 1) (48 + v % 10)) at (lasts (e - 1 - at) (v / 10)) ≡ put l at (lasts (e - at) v)
+put_digit_at l at e v p h =
+    let i : e - 1 ≡ at + (e - at - 1) = omega arith in
+    let k : e - 1 - at ≡ e - at - 1 = omega arith in
+    rw (k, i) (put_digit l at (e - at) v (omega arith) (omega arith))
 
 -- a line, by its three parts
 pub line_put : (l : List ℕ) (at : ℕ) (key value : List ℕ) {m k j : List ℕ} {r q z : ℕ} → at + length (line key value) ≤ length l

@@ -1,2 +1,3 @@
 -- What the calls that put bytes promise.
 pub mod Place
+pub mod Pages

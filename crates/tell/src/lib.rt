@@ -12,11 +12,7 @@ fn put(out: &mut [u64], values: &[u64])
     requires { length values.now ≤ length out.old }
     ensures { out.new ≡ values.now ++ drop (length values.now) out.old }
 {
-    let mut i: usize = 0;
-    while i < values.len() {
-        out[i] = values[i];
-        i += 1;
-    }
+    out[..values.len()].copy_from_slice(values);
 }
 
 // What is said: the number is returned, the values go to the start of out.

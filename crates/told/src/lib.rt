@@ -1,13 +1,14 @@
 // Each answer told as a number with values, in code; rules/specs/Told.antt has the same as definitions. For the probe.
 #![tactic(auto)]
 
-ghost use Rattle.std.specs.Prelude.{◌≡◌};
-ghost use Rattle.rules.specs.Told.{refusal_told, read_told, write_told, schedule_told, pattern_told};
+ghost use Rattle.std.specs.Prelude.{◌≡◌, ℕ, [], ◌∷◌, MatchResult};
+ghost use Rattle.rules.specs.Told.{◌with◌, refusal_told, schedule_told};
 ghost use Rattle.told.specs.Sayings.{said, read_probed, blocker_probed, misses_probed, verdict_probed, draw_probed, set_probed};
 
 use rules::{Carried, Refusal, Timing, Verdict};
 
 // A number with no to four values.
+// Kept: (d) an array of four with a length beside it is no plainer: here the variant says how many values there are.
 #[derive(Clone, Copy)]
 pub enum Saying {
     Bare(u32),
@@ -26,12 +27,10 @@ fn say_refusal(r: Refusal) -> Saying
 {
     let number = numbers::refusal_number(r);
     let carried = numbers::refusal_carries(r);
-    match carried {
-        None => Saying::Bare(number),
-        Carried::Word(i) => Saying::One(number, i as u64),
-        Carried::Line(l) => Saying::One(number, l as u64),
-        Carried::Record(l) => Saying::One(number, l as u64),
-    }
+    let Some(Carried::Word(n) | Carried::Line(n) | Carried::Record(n)) = carried else {
+        return Saying::Bare(number);
+    };
+    Saying::One(number, u64::from(n))
 }
 
 // The reader's answer, and the bytes used.
@@ -39,27 +38,17 @@ pub fn say_read(answer: Result<u32, Refusal>, used: u64) -> Saying
     ensures { said result ≡ read_probed answer used }
 {
     match answer {
-        Ok(n) => Saying::Two(0, n as u64, used),
+        Ok(n) => Saying::Two(0, u64::from(n), used),
         Err(r) => say_refusal(r),
     }
 }
 
-// The writer's answer.
-pub fn say_write(answer: Result<u32, Refusal>) -> Saying
-    ensures { said result ≡ write_told answer }
+// An answer that is a count: a writer's, the sheet's reader's, the pattern's.
+pub fn say_count<N: Into<u64>>(answer: Result<N, Refusal>) -> Saying
+    ensures { MatchResult answer (λ n. (v : ℕ) × N.converts n v × (said result ≡ 0 with (v ∷ []))) (λ r. said result ≡ refusal_told r) }
 {
     match answer {
-        Ok(n) => Saying::One(0, n as u64),
-        Err(r) => say_refusal(r),
-    }
-}
-
-// The answer of the sheet's reader.
-pub fn say_sheet(answer: Result<u32, Refusal>) -> Saying
-    ensures { said result ≡ read_told answer }
-{
-    match answer {
-        Ok(n) => Saying::One(0, n as u64),
+        Ok(n) => Saying::One(0, n.into()),
         Err(r) => say_refusal(r),
     }
 }
@@ -69,13 +58,13 @@ pub fn say_schedule(answer: Result<Timing, Refusal>) -> Saying
     ensures { said result ≡ schedule_told answer }
 {
     match answer {
-        ScheduleAnswer::OnTime(n) => Saying::One(200, n),
-        ScheduleAnswer::Late {
-            rows,
-            task,
-            job,
-            deadline,
-        } => Saying::Four(201, rows, task, job, deadline),
+        Ok(Timing { rows, late: None }) => Saying::One(200, rows),
+        Ok(
+            Timing {
+                rows,
+                late: Some(j),
+            },
+        ) => Saying::Four(201, rows, j.task, j.job, j.deadline),
         Err(r) => say_refusal(r),
     }
 }
@@ -84,10 +73,7 @@ pub fn say_schedule(answer: Result<Timing, Refusal>) -> Saying
 fn blocker_value(blocker: Option<u32>) -> u64
     ensures { result ≡ blocker_probed blocker }
 {
-    match blocker {
-        Some(b) => b as u64,
-        None => NOBODY,
-    }
+    blocker.map_or(NOBODY, u64::from)
 }
 
 // A "misses".
@@ -95,7 +81,7 @@ fn say_misses(length: u32, blocker: Option<u32>, over: u32) -> Saying
     ensures { said result ≡ misses_probed length blocker over }
 {
     let value = blocker_value(blocker);
-    Saying::Three(101, length as u64, value, over as u64)
+    Saying::Three(101, u64::from(length), value, u64::from(over))
 }
 
 // A verdict.
@@ -103,7 +89,7 @@ fn say_judged(verdict: Verdict) -> Saying
     ensures { said result ≡ verdict_probed (Ok verdict) }
 {
     match verdict {
-        Verdict::Meets(span) => Saying::One(100, span as u64),
+        Verdict::Meets(span) => Saying::One(100, u64::from(span)),
         Verdict::Misses(length, blocker, over) => say_misses(length, blocker, over),
         Verdict::TooFar => Saying::Bare(102),
     }
@@ -119,21 +105,11 @@ pub fn say_verdict(answer: Result<Verdict, Refusal>) -> Saying
     }
 }
 
-// The pattern's answer.
-pub fn say_pattern(answer: Result<u64, Refusal>) -> Saying
-    ensures { said result ≡ pattern_told answer }
-{
-    match answer {
-        Ok(n) => Saying::One(0, n),
-        Err(r) => say_refusal(r),
-    }
-}
-
 // A number drawn, and the state after it.
 pub fn say_drawn(number: u32, after: u32) -> Saying
     ensures { said result ≡ draw_probed number after }
 {
-    Saying::Two(0, number as u64, after as u64)
+    Saying::Two(0, u64::from(number), u64::from(after))
 }
 
 // A set drawn, and the state after it.
@@ -141,7 +117,7 @@ pub fn say_set(answer: Result<u32, Refusal>, after: u32) -> Saying
     ensures { said result ≡ set_probed answer after }
 {
     match answer {
-        Ok(n) => Saying::Two(0, n as u64, after as u64),
-        Err(r) => Saying::One(numbers::refusal_number(r), after as u64),
+        Ok(n) => Saying::Two(0, u64::from(n), u64::from(after)),
+        Err(r) => Saying::One(numbers::refusal_number(r), u64::from(after)),
     }
 }

@@ -7,16 +7,16 @@ use Rattle.demand.proofs.Bounds.{task_bounded}
 use Rattle.demand.proofs.blocker_at.Goals as goal
 
 pub loop-i-init : goal.loop-i-init
-loop-i-init c = record { in_range = omega arith; longest = longest_none _ _ }
+loop-i-init c = record { in_range = omega arith; longest = rw c.count-i.ensures (longest_none _ _) }
 
 pub wait_of-wait-requires : goal.wait_of-wait-requires
-wait_of-wait-requires c = task_bounded _ c.requires _ (omega arith) _ c.task_at.ensures
+wait_of-wait-requires c = task_bounded _ c.args.tasks.valid _ (omega arith) _ c.task.ensures
 
 -- task i waits as long, or longer
 pub loop-i-preserved-then-most-wait : goal.loop-i-preserved-then-most-wait
 loop-i-preserved-then-most-wait c =
     let at_loop = c.loop-i.invariant in
-    let waits = c.wait_of-wait.ensures.0 ∙ ap (wait _) c.task_at.ensures in
+    let waits = c.wait_of-wait.ensures.0 ∙ ap (wait _) c.task.ensures in
     record {
       in_range = omega arith;
       longest = longest_new _ _ _ c.loop-i-test.true at_loop.in_range _ _ at_loop.longest _ waits (omega arith);
@@ -26,7 +26,7 @@ loop-i-preserved-then-most-wait c =
 pub loop-i-preserved : goal.loop-i-preserved
 loop-i-preserved c =
     let at_loop = c.loop-i.invariant in
-    let waits = c.wait_of-wait.ensures.0 ∙ ap (wait _) c.task_at.ensures in
+    let waits = c.wait_of-wait.ensures.0 ∙ ap (wait _) c.task.ensures in
     record {
       in_range = omega arith;
       longest = longest_on _ _ _ c.loop-i-test.true at_loop.in_range _ _ at_loop.longest _ waits (omega arith);
@@ -35,8 +35,8 @@ loop-i-preserved c =
 -- of all tasks
 pub returns-then-most-eq0 : goal.returns-then-most-eq0
 returns-then-most-eq0 c =
-    sym (longest_nobody _ _ _ _ (longest_all _ _ _ _ _ c.requires c.loop-i-test.false c.loop-i.invariant.longest) c.if-most-eq0.true)
+    sym (longest_nobody _ _ _ _ (longest_all _ _ _ _ _ c.args.tasks.valid c.loop-i-test.false c.loop-i.invariant.longest) c.if-most-eq0.true)
 
 pub returns : goal.returns
 returns c =
-    sym (longest_blocks _ _ _ _ (longest_all _ _ _ _ _ c.requires c.loop-i-test.false c.loop-i.invariant.longest) c.if-most-eq0.false)
+    sym (longest_blocks _ _ _ _ (longest_all _ _ _ _ _ c.args.tasks.valid c.loop-i-test.false c.loop-i.invariant.longest) c.if-most-eq0.false)

@@ -7,9 +7,6 @@ use Rattle.demand.proofs.blocker_at.Given as goal
 
 abbrev pub invariant-loop-i : goal.invariant-loop-i
 invariant-loop-i l = record {
-  in_range : l.i ≤ task_count l.table;
-  longest : Longest l.length l.i (tasks_left l.table l.i) l.most l.task;
+  in_range : l.i ≤ task_count l.tasks.words.now;
+  longest : Longest l.length l.i (tasks_left l.tasks.words.now l.i) l.most l.task;
 }
-
-abbrev pub decreases-loop-i : goal.decreases-loop-i
-decreases-loop-i l = l.i

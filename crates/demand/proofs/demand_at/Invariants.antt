@@ -8,12 +8,9 @@ use Rattle.demand.proofs.demand_at.Given as goal
 
 abbrev pub invariant-loop-i : goal.invariant-loop-i
 invariant-loop-i l = record {
-  in_range : l.i ≤ task_count l.table;
-  due_is : l.due ≡ total_due l.length (tasks_left l.table l.i);
-  wait_is : l.wait ≡ longest_wait l.length (tasks_left l.table l.i);
-  due_fits : l.due ≤ 2 ^ 49 * (task_count l.table - l.i);
+  in_range : l.i ≤ task_count l.tasks.words.now;
+  due_is : l.due ≡ total_due l.length (tasks_left l.tasks.words.now l.i);
+  wait_is : l.wait ≡ longest_wait l.length (tasks_left l.tasks.words.now l.i);
+  due_fits : l.due ≤ 2 ^ 49 * (task_count l.tasks.words.now - l.i);
   wait_fits : l.wait < 2 ^ 32;
 }
-
-abbrev pub decreases-loop-i : goal.decreases-loop-i
-decreases-loop-i l = l.i

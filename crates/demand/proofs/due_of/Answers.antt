@@ -6,6 +6,6 @@ use Rattle.demand.proofs.due_of.Goals as goal
 
 pub returns : goal.returns
 returns c = (
-  rw (c.wide.ensures.0, c.wide-2.ensures.0, c.count_within.ensures) (sym (due_counted _ c.args.task)),
+  rw (c.from.ensures, c.from-2.ensures, c.count_within.ensures) (sym (due_counted _ c.args.task)),
   times_small _ _ (omega arith) (omega arith),
 )

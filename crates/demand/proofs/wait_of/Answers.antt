@@ -6,7 +6,7 @@ use Rattle.demand.proofs.wait_of.Goals as goal
 -- D is above the length
 pub returns-then-length-task : goal.returns-then-length-task
 returns-then-length-task c =
-    (ap (λ (u : ℕ). u - 1) c.wide.ensures.0 ∙ sym (wait_in _ c.args.task c.if-length-task.true), omega arith)
+    (ap (λ (u : ℕ). u - 1) c.from.ensures ∙ sym (wait_in _ c.args.task c.if-length-task.true), omega arith)
 
 -- or not
 pub returns-else-length-task : goal.returns-else-length-task

@@ -7,10 +7,7 @@ use Rattle.demand.proofs.work_at.Given as goal
 
 abbrev pub invariant-loop-i : goal.invariant-loop-i
 invariant-loop-i l = record {
-  in_range : l.i ≤ task_count l.table;
-  sum_is : l.sum ≡ work l.t (tasks_left l.table l.i);
-  sum_fits : l.sum ≤ 2 ^ 49 * (task_count l.table - l.i);
+  in_range : l.i ≤ task_count l.tasks.words.now;
+  sum_is : l.sum ≡ work l.t (tasks_left l.tasks.words.now l.i);
+  sum_fits : l.sum ≤ 2 ^ 49 * (task_count l.tasks.words.now - l.i);
 }
-
-abbrev pub decreases-loop-i : goal.decreases-loop-i
-decreases-loop-i l = l.i

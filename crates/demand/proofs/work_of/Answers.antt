@@ -7,7 +7,7 @@ use Rattle.demand.proofs.work_of.Goals as goal
 
 pub returns : goal.returns
 returns c =
-    let below = div-le_self (c.wide-2.result + c.wide-period.result - 1) c.wide-period.result in (
-      rw (c.wide.ensures.0, c.wide-period.ensures.0, c.wide-2.ensures.0, ceiling_is c.args.t c.args.task.T),
+    let below = div-le_self (c.from-2.result + c.from-period.result - 1) c.from-period.result in (
+      rw (c.from.ensures, c.from-period.ensures, c.from-2.ensures, ceiling_is c.args.t c.args.task.T),
       times_small _ _ (omega arith) (omega (arith, below)),
     )

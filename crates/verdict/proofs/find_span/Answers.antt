@@ -4,14 +4,14 @@ use Rattle.rules.proofs.Looks.{span_at, span_none, none_closes}
 use Rattle.verdict.proofs.find_span.Goals as goal
 
 -- t closes
-pub returns-then-work-wide : goal.returns-then-work-wide
-returns-then-work-wide c =
+pub returns-then-work-from : goal.returns-then-work-from
+returns-then-work-from c =
     let at_loop = c.loop-t.invariant in
     sym (span_at _ _ at_loop.none_before at_loop.low at_loop.high (omega arith))
 
 -- the work is above H
-pub returns-then-wide-work : goal.returns-then-wide-work
-returns-then-wide-work c = sym (span_none _ c.loop-t.t c.loop-t.invariant.none_before (omega arith))
+pub returns-then-from-work : goal.returns-then-from-work
+returns-then-from-work c = sym (span_none _ c.loop-t.t c.loop-t.invariant.none_before (omega arith))
 
 -- the look goes on from the work
 pub loop-t-preserved : goal.loop-t-preserved

@@ -10,7 +10,7 @@ abbrev pub invariant-loop-t : goal.invariant-loop-t
 invariant-loop-t l = record {
   low : 1 ≤ l.t;
   high : l.t ≤ horizon;
-  none_before : NonePasses (λ s. closes s (tasks_of l.table)) 1 l.t;
+  none_before : NonePasses (λ s. closes s (tasks_of l.tasks.words.now)) 1 l.t;
 }
 
 abbrev pub decreases-loop-t : goal.decreases-loop-t

@@ -13,7 +13,7 @@ overflow_cast-result c =
     let at_loop = c.loop-length.invariant in
     let over = fails_above_0 _ _ _ c.excess_at-over.ensures (omega arith) in
     let most =
-    excess_of_table _ _ c.requires _
+    excess_of_table _ _ c.args.tasks.valid _
     (record { low = at_loop.low; high = omega arith; passes = over.0; none_before = at_loop.none_before }) in
     omega (arith, over.1, most)
 

@@ -1,5 +1,5 @@
 -- No length before the one looked at fails.
-use Rattle.std.proofs.Common.{◌+◌, ◌-◌, ◌≤◌}
+use Rattle.std.proofs.Common.{◌+◌, ◌≤◌}
 use Rattle.rules.specs.Task.{tasks_of}
 use Rattle.rules.specs.Numbers.{horizon}
 use Rattle.rules.specs.Demand.{fails}
@@ -10,8 +10,6 @@ abbrev pub invariant-loop-length : goal.invariant-loop-length
 invariant-loop-length l = record {
   low : 1 ≤ l.length;
   high : l.length ≤ horizon + 1;
-  none_before : NonePasses (λ L. fails L (tasks_of l.table)) 1 l.length;
+  none_before : NonePasses (λ L. fails L (tasks_of l.tasks.words.now)) 1 l.length;
 }
 
-abbrev pub decreases-loop-length : goal.decreases-loop-length
-decreases-loop-length l = horizon + 1 - l.length

@@ -1,2 +1,0 @@
--- Words of the contracts in this crate.
-pub mod Searches

@@ -58,13 +58,10 @@ pub fn say_schedule(answer: Result<Timing, Refusal>) -> Saying
     ensures { said result ≡ schedule_told answer }
 {
     match answer {
-        Ok(Timing { rows, late: None }) => Saying::One(200, rows),
-        Ok(
-            Timing {
-                rows,
-                late: Some(j),
-            },
-        ) => Saying::Four(201, rows, j.task, j.job, j.deadline),
+        Ok(t) => match t.late {
+            Some(j) => Saying::Four(201, t.rows, j.task, j.job, j.deadline),
+            None => Saying::One(200, t.rows),
+        },
         Err(r) => say_refusal(r),
     }
 }

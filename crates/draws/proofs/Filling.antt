@@ -4,7 +4,6 @@ use Rattle.rules.specs.declared.Task.{Task}
 use Rattle.rules.specs.Generator.{state_after, task_drawn, tasks_drawn, long_kernel, with_long, words_of}
 use Rattle.rules.proofs.Slices.{four_more}
 use Rattle.rules.proofs.Drawn.{state_none, state_more, rest, rest_all, rest_more, rest_none, words_of_none, words_of_more, words_of_append, length_words_of}
-use Rattle.std.specs.Prelude.{None}
 
 -- i of n tasks are written; those of done came after the first, when the state was s₀, the table table₀ and the least D d₀
 pub record Filled (s₀ n : ℕ) (asked : Bool) (table₀ : List ℕ) (d₀ s : ℕ) (table : List ℕ) (d i : ℕ) : Type 0 where

@@ -1,7 +1,7 @@
 // Draws on plain numbers: the state is a number that each draw is lent and moves on.
 #![tactic(auto)]
 
-ghost use Rattle.std.specs.Prelude.{◌≡◌, ◌+◌, ◌*◌, ◌%◌, ◌<◌, ◌≤◌, min, ◌&&◌, ◌∷◌, ◌++◌, length, take, drop, ◌==◌, if◌then◌else◌};
+ghost use Rattle.std.specs.Prelude.{◌≡◌, ◌+◌, ◌*◌, ◌%◌, ◌<◌, ◌≤◌, ◌&&◌, ◌∷◌, ◌++◌, length, take, drop, ◌==◌, if◌then◌else◌};
 ghost use Rattle.rules.specs.Generator.{next_state, state_after, task_drawn, tasks_drawn, long_kernel, with_long, words_of, Draws, DrawsSet};
 
 use rules::{Refusal, Task};
@@ -10,10 +10,11 @@ use rules::{Refusal, Task};
 const LONG: u32 = 65535;
 
 // The product of two numbers, modulo 4,294,967,296.
+// Kept: document 01 ("Language form for each place") asks for an own wrapping multiply, so it is not the method `wrapping_mul`.
 fn wrapping_mul(a: u32, b: u32) -> u32
     ensures { result ≡ a * b % 4294967296 }
 {
-    ((a as u64) * (b as u64) % 4294967296) as u32
+    (u64::from(a) * u64::from(b) % 4294967296) as u32
 }
 
 // The state after a draw.
@@ -21,7 +22,7 @@ fn wrapping_mul(a: u32, b: u32) -> u32
 pub fn next(state: u32) -> u32
     ensures { result ≡ next_state state }
 {
-    std::num::wrapping_add_u32(wrapping_mul(1664525, state), 1013904223)
+    wrapping_mul(1664525, state).wrapping_add(1013904223)
 }
 
 // A draw: the number drawn; the state is moved on.
@@ -29,61 +30,43 @@ pub fn next(state: u32) -> u32
 pub fn draw_from(state: &mut u32) -> u32
     ensures { Draws state.old result state.new }
 {
-    let after = next(*state);
-    *state = after;
-    after / 65536
+    *state = next(*state);
+    *state / 65536
 }
 
 // A task, by four draws: T, C, D, R.
 fn draw_task(state: &mut u32) -> Task
     ensures { (result ≡ task_drawn state.old) × (state.new ≡ state_after 4 state.old) }
 {
-    let t = 1 + draw_from(state) % 1000;
-    let c = 1 + draw_from(state) % t;
-    let d = 1 + draw_from(state) % 2000;
-    let r = draw_from(state) % 1000;
-    Task {
-        C: c,
-        D: d,
-        T: t,
-        R: r,
-    }
+    let T = 1 + draw_from(state) % 1000;
+    let C = 1 + draw_from(state) % T;
+    let D = 1 + draw_from(state) % 2000;
+    let R = draw_from(state) % 1000;
+    Task { C, D, T, R }
 }
 
 // What a task drawn becomes: the long kernel, where that is asked for and it is the only one left.
 fn place(task: Task, asked: bool, left: usize, least: u32) -> Task
     ensures { result ≡ (if asked && left == 1 then long_kernel least task else task) }
 {
-    if asked {
-        if left == 1 {
-            return Task {
-                C: least,
-                D: LONG,
-                T: LONG,
-                R: task.R,
-            };
+    if asked && left == 1 {
+        Task {
+            C: least,
+            D: LONG,
+            T: LONG,
+            ..task
         }
+    } else {
+        task
     }
-    task
 }
 
 // A task's four words go to a place in a table.
-#[tactic(auto, using(rules::proofs::Slices::four))]
 fn put_task(table: &mut [u32], at: usize, task: Task)
     requires { at + 3 < length table.old }
     ensures { table.new ≡ take at table.old ++ (task.C ∷ task.D ∷ task.T ∷ task.R ∷ drop (at + 4) table.old) }
 {
-    table[at] = task.C;
-    table[at + 1] = task.D;
-    table[at + 2] = task.T;
-    table[at + 3] = task.R;
-}
-
-// The lesser of two numbers.
-fn lesser(a: u32, b: u32) -> u32
-    ensures { result ≡ min a b }
-{
-    if a < b { a } else { b }
+    table[at..at + 4].copy_from_slice(&[task.C, task.D, task.T, task.R]);
 }
 
 // The n tasks of a set go to the start of a table; the last one is the long kernel where that is asked for and another stands before it.
@@ -95,13 +78,10 @@ fn draw_tasks(state: &mut u32, n: usize, asked: bool, table: &mut [u32])
     let first = draw_task(state);
     put_task(table, 0, first);
     let mut least = first.D;
-    let mut i: usize = 1;
-    while i < n {
+    for i in 1..n {
         let task = draw_task(state);
-        let there = place(task, asked, n - i, least);
-        put_task(table, 4 * i, there);
-        least = lesser(least, task.D);
-        i += 1;
+        put_task(table, 4 * i, place(task, asked, n - i, least));
+        least = least.min(task.D);
     }
 }
 

@@ -9,7 +9,7 @@ loop-i-init c = filled_first _ _ _ _ _ c.requires.0 (omega arith)
 pub loop-i-preserved : goal.loop-i-preserved
 loop-i-preserved c =
     let drew = c.draw_task-task.ensures in
-    filled_more _ _ _ _ _ c.loop-i.invariant c.loop-i-test.true drew.0 drew.1 c.place-there.ensures c.put_task-in-loop-i.ensures c.lesser-least.ensures
+    filled_more _ _ _ _ _ c.loop-i.invariant c.loop-i-test.true drew.0 drew.1 c.place.ensures c.put_task-in-loop-i.ensures (omega arith)
 
 pub returns-clause-moved : goal.returns-clause-moved
 returns-clause-moved c =

@@ -1,13 +1,13 @@
 -- Bytes added to a page: one outcome, and parts added one after the other.
-use mathlib.Core.Path.{◌≡◌, refl, sym, ap, ◌∙◌}
+use mathlib.Core.Path.{◌≡◌, sym, ap, ◌∙◌}
 use Prim.Native.Nat.{ℕ, ◌+◌, ◌≤◌}
 use native.Mathlib.Omega.{arith}
 use mathlib.Core.List.{List, [], ◌++◌}
-use lib.ListN.{length, length-append}
+use lib.ListN.{length, drop, length-append}
 use Rattle.print.specs.Place.{put}
 use Rattle.print.specs.Pages.{Fits, Adds, AddsOne}
 use Rattle.print.specs.declared.Page.{Page}
-use Rattle.print.proofs.Putting.{puts_one, put_nil, put_length, put_after, then}
+use Rattle.print.proofs.Putting.{puts_one, put_nil, put_start, put_length, put_after, then}
 
 -- one outcome
 pub adds_one : AddsOne
@@ -31,42 +31,33 @@ module _ {old : Page} (a b k : List ℕ) (room : Fits old (a ++ (b ++ k))) where
   pub adds_three : {mid next new : Page} → Adds old a mid → Adds mid b next → Adds next k new → Adds old (a ++ (b ++ k)) new
   adds_three first second third = adds_both a (b ++ k) room first (adds_both b k (fits_second a (b ++ k) room first) second third)
 
--- of what a loop adds part by part: what was added to the old page makes, with the rest that is still to come, the whole
-pub record ToCome (old : Page) (whole : List ℕ) (page : Page) (rest : List ℕ) : Type 0 where
-  pub same : page.out.ghost_name ≡ old.out.ghost_name
+-- the first part fits where the whole does
+pub part_fits : (n m : ℕ) (rest a b : List ℕ) → n + length rest ≤ m → rest ≡ a ++ b → n + length a ≤ m
+part_fits n m rest a b room parts = omega (arith, room, ap length parts, length-append a b)
+
+-- of what a loop adds part by part: rest is still to come at the page's place, and makes the whole
+pub record ToCome (whole : List ℕ) (page : Page) (rest : List ℕ) : Type 0 where
   pub room : Fits page rest
-  pub ends : page.at + length rest ≡ old.at + length whole
-  pub makes : put page.out.now page.at rest ≡ put old.out.now old.at whole
+  pub makes : put page.out.now page.at rest ≡ whole
 
--- at the start all of it
-pub all_to_come : {old : Page} {whole : List ℕ} → Fits old whole → ToCome old whole old whole
-all_to_come room = record { same = refl; room = room; ends = refl; makes = refl }
+-- then the part a was added, and b is still to come
+pub less_to_come : {page mid : Page} {whole rest : List ℕ} (a b : List ℕ) → Adds page a mid → ToCome whole page rest → rest ≡ a ++ b → ToCome whole mid b
+less_to_come {page} {mid} {whole} {rest} a b first going parts =
+    let both : Fits page (a ++ b) = rw parts at going.room in
+    record {
+      room = fits_second a b both first;
+      makes =
+          put_after page.out.now page.at a (part_fits page.at (length page.out.now) rest a b going.room parts) b first.puts
+          ∙ ap (put page.out.now page.at) (sym parts)
+          ∙ going.makes;
+    }
 
--- then the part a, and b after it
-module _ {old page : Page} {whole rest : List ℕ} (a b : List ℕ) (going : ToCome old whole page rest) (parts : rest ≡ a ++ b) where
-  both_fit : Fits page (a ++ b)
-  both_fit = rw parts at going.room
-
-  pub next_fits : Fits page a
-  next_fits = omega (arith, both_fit, length-append a b)
-
-  pub less_to_come : {mid : Page} → Adds page a mid → ToCome old whole mid b
-  less_to_come first =
-      record {
-        same = first.same ∙ going.same;
-        room = fits_second a b both_fit first;
-        ends = omega (arith, first.puts.says, going.ends, ap length parts, length-append a b);
-        makes = put_after page.out.now page.at a next_fits b first.puts ∙ ap (put page.out.now page.at) (sym parts) ∙ going.makes;
-      }
+-- the first part of all was added at the start of a page
+pub first_to_come : {page mid : Page} (vs a b : List ℕ) → Adds page a mid → page.at ≡ 0 → length vs ≤ length page.out.now → vs ≡ a ++ b
+    → ToCome (vs ++ drop (length vs) page.out.now) mid b
+first_to_come {page} {mid} vs a b first start room parts =
+    less_to_come a b first (record { room = omega arith; makes = ap (λ (k : ℕ). put page.out.now k vs) start ∙ put_start page.out.now vs }) parts
 
 -- at the end nothing
-pub none_to_come : {old page : Page} {whole rest : List ℕ} → ToCome old whole page rest → rest ≡ [] → Adds old whole page
-none_to_come {old} {page} {whole} {rest} going nothing =
-    record {
-      same = going.same;
-      puts =
-          record {
-            says = omega (arith, going.ends, ap length nothing);
-            leaves = sym (put_nil page.out.now page.at) ∙ ap (put page.out.now page.at) (sym nothing) ∙ going.makes;
-          };
-    }
+pub none_to_come : {page : Page} {whole rest : List ℕ} → ToCome whole page rest → rest ≡ [] → page.out.now ≡ whole
+none_to_come {page} going nothing = sym (put_nil page.out.now page.at) ∙ ap (put page.out.now page.at) (sym nothing) ∙ going.makes

@@ -1,5 +1,6 @@
 // The generator: its state is lent to each draw and moved on by it. Each call is thin, over one of `draws` on the number.
 // Two more take the generator by value and return it, over the lent ones.
+// Kept: document 01 asks for a one-number struct lent by `&mut`, thin over a covered function on the number: so a draw and a set's draw are here and in `draws`.
 #![tactic(auto)]
 
 ghost use Rattle.rules.specs.Generator.{Draws, DrawsSet};
@@ -13,13 +14,10 @@ pub struct Generator {
 }
 
 // THE DRAW. The number drawn; the state is moved on.
-#[tactic(auto, using(rules::proofs::Drawn::drew))]
 pub fn draw(g: &mut Generator) -> u32
     ensures { Draws g.old.state result g.new.state }
 {
-    let state = draws::next(g.state);
-    g.state = state;
-    state / 65536
+    draws::draw_from(&mut g.state)
 }
 
 // THE SET of a number goes to the start of a table; the answer is the task count, and the state is moved on. Where the table is too short,
@@ -27,44 +25,23 @@ pub fn draw(g: &mut Generator) -> u32
 pub fn draw_set(g: &mut Generator, number: u32, table: &mut [u32]) -> Result<u32, Refusal>
     ensures { DrawsSet g.old.state number table.old result g.new.state table.new }
 {
-    let mut state = g.state;
-    let answer = draws::draw_set_from(&mut state, number, table);
-    g.state = state;
-    answer
+    draws::draw_set_from(&mut g.state, number, table)
 }
 
-// What was drawn, and the generator after it.
-#[derive(Clone, Copy)]
-pub struct Drawn {
-    pub number: u32,
-    pub after: Generator,
-}
-
-// What a set's draw answered, and the generator after it.
-#[derive(Clone, Copy)]
-pub struct DrawnSet {
-    pub answer: Result<u32, Refusal>,
-    pub after: Generator,
-}
-
-// The draw for a caller that holds the generator by value.
-pub fn draw_value(mut g: Generator) -> Drawn
-    ensures { Draws g.state result.number result.after.state }
+// The draw for a caller that holds the generator by value: what was drawn, and the generator after it.
+pub fn draw_value(mut g: Generator) -> (u32, Generator)
+    ensures { Draws g.state result.0 result.1.state }
 {
-    let number = draw(&mut g);
-    Drawn {
-        number: number,
-        after: g,
-    }
+    (draw(&mut g), g)
 }
 
-// The set's draw for such a caller.
-pub fn draw_set_value(mut g: Generator, number: u32, table: &mut [u32]) -> DrawnSet
-    ensures { DrawsSet g.state number table.old result.answer result.after.state table.new }
+// The set's draw for such a caller: what it answered, and the generator after it.
+pub fn draw_set_value(
+    mut g: Generator,
+    number: u32,
+    table: &mut [u32],
+) -> (Result<u32, Refusal>, Generator)
+    ensures { DrawsSet g.state number table.old result.0 result.1.state table.new }
 {
-    let answer = draw_set(&mut g, number, table);
-    DrawnSet {
-        answer: answer,
-        after: g,
-    }
+    (draw_set(&mut g, number, table), g)
 }

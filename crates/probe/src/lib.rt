@@ -102,8 +102,8 @@ pub fn probe_draw(state: u32, out: &mut [u64]) -> u32
     if out.len() < ROOM {
         return 999;
     }
-    let drawn = generator::draw_value(Generator { state: state });
-    tell::tell(out, told::say_drawn(drawn.number, drawn.after.state))
+    let (drawn, after) = generator::draw_value(Generator { state });
+    tell::tell(out, told::say_drawn(drawn, after.state))
 }
 
 // A set drawn: 0 with the task count and the state after it; 6 with the state.
@@ -114,7 +114,6 @@ pub fn probe_generate(state: u32, number: u32, table: &mut [u32], out: &mut [u64
     if out.len() < ROOM {
         return 999;
     }
-    let drawn = generator::draw_set_value(Generator { state: state }, number, table);
-    let answer = drawn.answer;
-    tell::tell(out, told::say_set(answer, drawn.after.state))
+    let (answer, after) = generator::draw_set_value(Generator { state }, number, table);
+    tell::tell(out, told::say_set(answer, after.state))
 }

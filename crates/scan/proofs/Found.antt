@@ -1,24 +1,19 @@
 -- The promise of a scan leaves one outcome.
-use mathlib.Core.Path.{◌≡◌, sym, ap, ◌∙◌}
-use Prim.Native.Nat.{ℕ, ◌*◌}
-use native.Mathlib.Omega.{arith}
-use mathlib.Core.List.{List}
-use lib.ListN.{length, take}
-use lib.Seq.{length-take-le}
+use Rattle.std.proofs.Common.{◌≡◌, ◌*◌, length, take, sym, ap, ◌∙◌, arith, Ok, Err}
+use Rattle.std.proofs.Math.Seq.{length-take-le}
+use Rattle.rules.specs.Text.{took, stop}
 use Rattle.rules.proofs.Booleans.{impossible}
-use Rattle.scan.specs.Scanned.{scanned, Few, ScansOne}
-use Rattle.scan.specs.declared.Scan.{Scan}
-use Rattle.scan.specs.declared.Scan.TheVariants.{Whole, Stop}
+use Rattle.scan.specs.Scanned.{ScansOne}
 
 -- one outcome
 pub scans_one : ScansOne
-scans_one due a b ws vs r q long_ws long_vs x y = (by_answers a b (x.says ∙ sym y.says) x.few y.few, x.says ∙ sym y.says)
-  where
-    by_answers : (a b : Scan) → scanned a ws r ≡ scanned b vs q → Few a → Few b → a ≡ b
-    by_answers (Whole n) (Whole m) e h k =
-        let same : take (4 * n) ws ≡ take (4 * m) vs = cc in
-        let counts : n ≡ m = omega (arith, length-take-le (4 * n) ws (omega arith), length-take-le (4 * m) vs (omega arith), ap length same) in
-        ap Whole counts
-    by_answers (Whole n) (Stop l) e h k = impossible cc
-    by_answers (Stop l) (Whole m) e h k = impossible cc
-    by_answers (Stop l) (Stop m) e h k = let same : l ≡ m = cc in ap Stop same
+scans_one due (Ok a) (Ok b) ws vs long_ws long_vs x y =
+    let both : took (take (4 * a.0) ws) a.1.now ≡ took (take (4 * b.0) vs) b.1.now = sym x.says ∙ y.says in
+    let same : take (4 * a.0) ws ≡ take (4 * b.0) vs = cc in
+    let x_few = x.few in
+    let y_few = y.few in
+    let counts : a.0 ≡ b.0 = omega (arith, length-take-le (4 * a.0) ws (omega arith), length-take-le (4 * b.0) vs (omega arith), ap length same) in
+    cc
+scans_one due (Ok a) (Err r) ws vs long_ws long_vs x y = let both : took (take (4 * a.0) ws) a.1.now ≡ stop y.line = sym x.says ∙ y.says in impossible cc
+scans_one due (Err r) (Ok b) ws vs long_ws long_vs x y = let both : stop x.line ≡ took (take (4 * b.0) vs) b.1.now = sym x.says ∙ y.says in impossible cc
+scans_one due (Err r) (Err q) ws vs long_ws long_vs x y = let both : stop x.line ≡ stop y.line = sym x.says ∙ y.says in let one = x.refuses in let other = y.refuses in cc

@@ -1,32 +1,77 @@
 -- `scan::scan_set` meets its contract: the first line is not as due, and the scan stops at line 1; or the set is what the lines of so many tasks are.
-use Rattle.std.proofs.Common.{◌≡◌, ℕ, List, sym, ◌∙◌, arith}
-use Rattle.rules.specs.Text.{Lines, stop}
-use Rattle.scan.specs.Scanned.{Scans}
-use Rattle.scan.specs.declared.Scan.TheVariants.{Stop}
+use Rattle.std.proofs.Common.{◌≡◌, ℕ, ◌*◌, ◌∙◌, ◌≤◌, ◌<◌, ◌⊎◌, List, length, take, drop, inl, inr, true, false, refl, sym, ap, arith, Some}
+use Rattle.std.specs.declared.ops.RangeInclusive.{RangeInclusive}
+use Rattle.std.specs.Range.{range_inclusive_contains, range_inclusive_start, range_inclusive_end, range_inclusive_exhausted}
+use Rattle.std.specs.Ordering.{nat_cmp}
+use Rattle.std.proofs.Math.Seq.{length-take-le, take_at}
+use Rattle.std.proofs.lemmas.Bool.Decides.{nat_tests}
+use Rattle.std.proofs.lemmas.Result.{err_from_is_err_and}
+use Rattle.rules.specs.Numbers.{task_most, table_most}
+use Rattle.rules.specs.Text.{Lines, read_lines, took}
 use Rattle.rules.proofs.ReadSets.{no_first, no_task, too_many, some_tasks}
 use Rattle.scan.proofs.scan_set.Goals as goal
 
--- a stop is due
-stopped : {due : Lines} {l : ℕ} {words rest : List ℕ} → due ≡ stop l → Scans due (Stop l) words rest
-stopped e = record { says = sym e; few = tt }
+-- what a test of a range tells
+module _ (r : RangeInclusive ℕ) (n a b : ℕ) (s : range_inclusive_start r ≡ a) (e : range_inclusive_end r ≡ b) (x : range_inclusive_exhausted r ≡ false) where
+  within : true ≡ range_inclusive_contains (λ (x y : ℕ). Some (nat_cmp x y)) r n → (a ≤ n) × (n ≤ b)
+  within t = grind (arith, nat_tests)
+
+  outside : false ≡ range_inclusive_contains (λ (x y : ℕ). Some (nat_cmp x y)) r n → (n < a) ⊎ (b < n)
+  outside t = grind (arith, nat_tests)
 
 -- the first line is not as due
 pub returns-in_default : goal.returns-in_default
-returns-in_default c = stopped (no_first _ (sym c.in_default.ensures.says))
+returns-in_default c = record { line = 1; says = no_first _ c.in_default.ensures; refuses = refl }
 
--- no task
-pub returns-then-n-lt1 : goal.returns-then-n-lt1
-returns-then-n-lt1 c = stopped (no_task _ _ _ (sym c.in-Value.ensures.says) (omega arith))
+-- a set of n tasks, by the words that are lent for them
+lent : {due : Lines} {n : ℕ} (after words : List ℕ) → due ≡ read_lines (4 * n) 0 after → n ≤ task_most → table_most ≤ length words
+    → due ≡ read_lines (length (take (4 * n) words)) 0 after
+lent {due} {n} after words e f g =
+    let long : length (take (4 * n) words) ≡ 4 * n = length-take-le (4 * n) words (omega arith) in
+    e ∙ ap (λ (m : ℕ). read_lines m 0 after) (sym long)
 
--- too many
-pub returns-then-n : goal.returns-then-n
-returns-then-n c = stopped (too_many _ _ _ (sym c.in-Value.ensures.says) (omega arith) (omega arith))
+-- no task, or too many
+pub returns-then-not-contains : goal.returns-then-not-contains
+returns-then-not-contains c =
+    let new = c.new.ensures in
+    let n = c.in-Some.n in
+    let other : (n < 1) ⊎ (task_most < n) = outside c.new.result n _ _ new.start new.end new.exhausted c.if-not-contains.ensures.value in
+    record {
+      line = 1;
+      says =
+          elim other [
+            inl few ↦ no_task _ n _ c.in-Some.ensures few
+          | inr many ↦ too_many _ n _ c.in-Some.ensures (omega arith) many
+          ];
+      refuses = refl;
+    }
+
+-- a line of the tasks is not as due
+pub returns-in_err-rest : goal.returns-in_err-rest
+returns-in_err-rest c =
+    let new = c.new.ensures in
+    let n = c.in-Some.n in
+    let some : (1 ≤ n) × (n ≤ task_most) = within c.new.result n _ _ new.start new.end new.exhausted c.if-not-contains.ensures.value in
+    let refused = err_from_is_err_and c.from_residual.result c.from_residual.ensures.1 in
+    let stops = c.in_err-rest.ensures in
+    rw (refused.1, refused.2) (record {
+      line = stops.line;
+      says = lent _ _ (some_tasks _ n _ c.in-Some.ensures some.0 some.1) some.1 c.requires ∙ stops.says;
+      refuses = stops.refuses;
+    })
 
 -- the lines of the tasks
 pub returns : goal.returns
 returns c =
-    let lines = c.task_lines.ensures in
+    let new = c.new.ensures in
+    let n = c.in-Some.n in
+    let some : (1 ≤ n) × (n ≤ task_most) = within c.new.result n _ _ new.start new.end new.exhausted c.if-not-contains.ensures.value in
+    let words = c.task_lines.new.words in
+    let as_long : length words ≡ 4 * n = c.task_lines.auto.words ∙ length-take-le (4 * n) c.args.words.now (omega arith) in
     record {
-      says = lines.says ∙ sym (some_tasks _ _ _ (sym c.in-Value.ensures.says) (omega arith) (omega arith));
-      few = lines.few;
+      says =
+          lent _ _ (some_tasks _ n _ c.in-Some.ensures some.0 some.1) some.1 c.requires
+          ∙ c.in_ok-rest.ensures
+          ∙ ap (λ (l : List ℕ). took l c.in_ok-rest.rest.now) (sym (take_at words (drop (4 * n) c.args.words.now) (4 * n) as_long));
+      few = some.1;
     }

@@ -4,8 +4,6 @@
 ghost use Rattle.std.specs.Prelude.{◌+◌, ◌*◌, ◌^◌, ◌≤◌, length};
 ghost use Rattle.texts.specs.Texts.{text_most, PutsSet, PutsSets};
 
-
-
 // The most bytes of a set's text: 8 for the line of the count, and 8 for each of at most 32 words.
 pub const TEXT_MOST: usize = 264;
 
@@ -15,15 +13,12 @@ fn put_set(state: &mut u32, number: u32, out: &mut [u8]) -> usize
     ensures { PutsSet state.old number out.old result state.new out.new }
 {
     let mut table = [0u32; 32];
-    let drawn = draws::draw_set_from(state, number, &mut table);
     // A set has at most 8 tasks, so that no draw is refused.
-    let Ok(n) = drawn else {
+    let Ok(n) = draws::draw_set_from(state, number, &mut table) else {
         return 0;
     };
-    let words = 4 * (n as usize);
-    let written = writer::write(&table[..words], out);
     // A set drawn is a table, and there is room for its text, so that no text is refused.
-    let Ok(length) = written else {
+    let Ok(length) = writer::write(&table[..4 * n as usize], out) else {
         return 0;
     };
     length as usize
@@ -34,11 +29,9 @@ pub fn put_sets(state: &mut u32, number: u32, count: u32, out: &mut [u8]) -> usi
     requires { (number + count ≤ 2 ^ 32) × (text_most * count ≤ length out.old) }
     ensures { PutsSets state.old number count out.old result state.new out.new }
 {
-    let mut at: usize = 0;
-    let mut i: u32 = 0;
-    while i < count {
+    let mut at = 0;
+    for i in 0..count {
         at += put_set(state, number + i, &mut out[at..]);
-        i += 1;
     }
     at
 }

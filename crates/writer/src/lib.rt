@@ -48,10 +48,7 @@ fn put_set(table: &[u32], out: &mut [u8])
 pub fn write(table: &[u32], out: &mut [u8]) -> Result<u32, Refusal>
     ensures { Writes table.now out.old result out.new }
 {
-    let checked = table::check_table(table);
-    if let Err(r) = checked {
-        return Err(r);
-    }
+    table::check_table(table)?;
     let total = text_length(table);
     if out.len() < total {
         return Err(Refusal::TooShort);

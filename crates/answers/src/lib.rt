@@ -1,88 +1,86 @@
-// The lines of an answer, put at a place: a verdict's or a refusal's.
+// The lines of an answer, put on a page: a verdict's or a refusal's.
 #![tactic(auto)]
 
-ghost use Rattle.std.specs.Prelude.{◌+◌, ◌≤◌, length};
 ghost use Rattle.rules.specs.Refusals.{carried_line};
 ghost use Rattle.rules.specs.Text.{bytes, line};
 ghost use Rattle.rules.specs.Report.{blocker_word, verdict_lines, refusal_lines, answer_lines};
-ghost use Rattle.print.specs.Place.{Puts};
+ghost use Rattle.print.specs.Pages.{Fits, Adds};
 
+use print::Page;
 use rules::{Carried, Refusal, Verdict};
 
-// The blocker's line is put at a place.
-fn put_blocker(out: &mut [u8], at: usize, blocker: Option<u32>) -> usize
-    requires { at + length (line (bytes "blocker=") (blocker_word blocker)) ≤ length out.old }
-    ensures { Puts out.old at (line (bytes "blocker=") (blocker_word blocker)) result out.new }
+// The blocker's line is put on a page.
+fn put_blocker(page: &mut Page, blocker: Option<u32>)
+    requires { Fits page.old (line (bytes "blocker=") (blocker_word blocker)) }
+    ensures { Adds page.old (line (bytes "blocker=") (blocker_word blocker)) page.new }
 {
     match blocker {
-        Some(k) => print::put_line(out, at, b"blocker=", k),
-        None => print::put_word_line(out, at, b"blocker=", b"none"),
+        Some(k) => page.put_line(b"blocker=", k),
+        None => page.put_line(b"blocker=", b"none"),
     }
 }
 
-// The lines of a "meets" are put at a place.
-fn put_meets(out: &mut [u8], at: usize, span: u32) -> usize
-    requires { at + length (verdict_lines (Verdict.Meets span)) ≤ length out.old }
-    ensures { Puts out.old at (verdict_lines (Verdict.Meets span)) result out.new }
+// The lines of a "meets" are put on a page.
+fn put_meets(page: &mut Page, span: u32)
+    requires { Fits page.old (verdict_lines (Verdict.Meets span)) }
+    ensures { Adds page.old (verdict_lines (Verdict.Meets span)) page.new }
 {
-    let after_word = print::put_word_line(out, at, b"verdict=", b"meets");
-    print::put_line(out, after_word, b"span=", span)
+    page.put_line(b"verdict=", b"meets");
+    page.put_line(b"span=", span);
 }
 
-// The lines of a "misses" are put at a place.
-fn put_misses(out: &mut [u8], at: usize, least: u32, blocker: Option<u32>, over: u32) -> usize
-    requires { at + length (verdict_lines (Verdict.Misses least blocker over)) ≤ length out.old }
-    ensures { Puts out.old at (verdict_lines (Verdict.Misses least blocker over)) result out.new }
+// The lines of a "misses" are put on a page.
+fn put_misses(page: &mut Page, least: u32, blocker: Option<u32>, over: u32)
+    requires { Fits page.old (verdict_lines (Verdict.Misses least blocker over)) }
+    ensures { Adds page.old (verdict_lines (Verdict.Misses least blocker over)) page.new }
 {
-    let after_word = print::put_word_line(out, at, b"verdict=", b"misses");
-    let after_length = print::put_line(out, after_word, b"length=", least);
-    let after_blocker = put_blocker(out, after_length, blocker);
-    print::put_line(out, after_blocker, b"over=", over)
+    page.put_line(b"verdict=", b"misses");
+    page.put_line(b"length=", least);
+    put_blocker(page, blocker);
+    page.put_line(b"over=", over);
 }
 
-// A verdict's lines are put at a place.
-fn put_verdict(out: &mut [u8], at: usize, verdict: Verdict) -> usize
-    requires { at + length (verdict_lines verdict) ≤ length out.old }
-    ensures { Puts out.old at (verdict_lines verdict) result out.new }
+// A verdict's lines are put on a page.
+fn put_verdict(page: &mut Page, verdict: Verdict)
+    requires { Fits page.old (verdict_lines verdict) }
+    ensures { Adds page.old (verdict_lines verdict) page.new }
 {
     match verdict {
-        Verdict::Meets(span) => put_meets(out, at, span),
-        Verdict::Misses(least, blocker, over) => put_misses(out, at, least, blocker, over),
-        Verdict::TooFar => print::put_word_line(out, at, b"verdict=", b"toofar"),
+        Verdict::Meets(span) => put_meets(page, span),
+        Verdict::Misses(least, blocker, over) => put_misses(page, least, blocker, over),
+        Verdict::TooFar => page.put_line(b"verdict=", b"toofar"),
     }
 }
 
-// The line of what a refusal carries is put at a place.
-fn put_carried(out: &mut [u8], at: usize, carried: Option<Carried>) -> usize
-    requires { at + length (carried_line carried) ≤ length out.old }
-    ensures { Puts out.old at (carried_line carried) result out.new }
+// The line of what a refusal carries, if anything, is put on a page.
+fn put_carried(page: &mut Page, carried: Option<Carried>)
+    requires { Fits page.old (carried_line carried) }
+    ensures { Adds page.old (carried_line carried) page.new }
 {
     match carried {
-        Some(Carried::Word(i)) => print::put_line(out, at, b"word=", i),
-        Some(Carried::Line(l)) => print::put_line(out, at, b"line=", l),
-        Some(Carried::Record(l)) => print::put_line(out, at, b"record=", l),
-        None => at,
+        Some(Carried::Word(i)) => page.put_line(b"word=", i),
+        Some(Carried::Line(l)) => page.put_line(b"line=", l),
+        Some(Carried::Record(l)) => page.put_line(b"record=", l),
+        None => {}
     }
 }
 
-// A refusal's lines are put at a place.
-fn put_refusal(out: &mut [u8], at: usize, refusal: Refusal) -> usize
-    requires { at + length (refusal_lines refusal) ≤ length out.old }
-    ensures { Puts out.old at (refusal_lines refusal) result out.new }
+// A refusal's lines are put on a page.
+fn put_refusal(page: &mut Page, refusal: Refusal)
+    requires { Fits page.old (refusal_lines refusal) }
+    ensures { Adds page.old (refusal_lines refusal) page.new }
 {
-    let number = numbers::refusal_number(refusal);
-    let carried = numbers::refusal_carries(refusal);
-    let after_number = print::put_line(out, at, b"refused=", number);
-    put_carried(out, after_number, carried)
+    page.put_line(b"refused=", numbers::refusal_number(refusal));
+    put_carried(page, numbers::refusal_carries(refusal));
 }
 
-// An answer's lines are put at a place.
-pub fn put_answer(out: &mut [u8], at: usize, answer: Result<Verdict, Refusal>) -> usize
-    requires { at + length (answer_lines answer) ≤ length out.old }
-    ensures { Puts out.old at (answer_lines answer) result out.new }
+// An answer's lines are put on a page.
+pub fn put_answer(page: &mut Page, answer: Result<Verdict, Refusal>)
+    requires { Fits page.old (answer_lines answer) }
+    ensures { Adds page.old (answer_lines answer) page.new }
 {
     match answer {
-        Ok(verdict) => put_verdict(out, at, verdict),
-        Err(refusal) => put_refusal(out, at, refusal),
+        Ok(verdict) => put_verdict(page, verdict),
+        Err(refusal) => put_refusal(page, refusal),
     }
 }

@@ -13,23 +13,18 @@ use Rattle.print.proofs.Putting.{puts_one, put_nil, put_start, put_length, put_a
 pub adds_one : AddsOne
 adds_one old vs p q f s = puts_one old.out.now old.at vs p.at q.at p.out.now q.out.now f.puts s.puts
 
--- two parts, one after the other
-module _ {old : Page} (a b : List ℕ) (room : Fits old (a ++ b)) where
-  -- after the first there is room for the second
-  pub fits_second : {mid : Page} → Adds old a mid → Fits mid b
-  fits_second first =
-      let h : old.at + length a ≤ length old.out.now = omega (arith, length-append a b) in
-      omega (arith, first.puts.says, ap length first.puts.leaves, put_length old.out.now old.at a h, length-append a b)
+-- a page keeps its length
+page_length : {old new : Page} (vs : List ℕ) → Adds old vs new → length new.out.now ≡ length old.out.now
+page_length {old} vs p = ap length p.puts.leaves ∙ put_length old.out.now old.at vs p.fits
 
-  pub adds_both : {mid new : Page} → Adds old a mid → Adds mid b new → Adds old (a ++ b) new
-  adds_both first second =
-      let h : old.at + length a ≤ length old.out.now = omega (arith, length-append a b) in
-      record { same = second.same ∙ first.same; puts = then old.out.now old.at a h b first.puts second.puts }
-
--- three parts, one after the other
-module _ {old : Page} (a b k : List ℕ) (room : Fits old (a ++ (b ++ k))) where
-  pub adds_three : {mid next new : Page} → Adds old a mid → Adds mid b next → Adds next k new → Adds old (a ++ (b ++ k)) new
-  adds_three first second third = adds_both a (b ++ k) room first (adds_both b k (fits_second a (b ++ k) room first) second third)
+-- parts, one after the other
+pub adds_both : {old mid new : Page} (a b : List ℕ) → Adds old a mid → Adds mid b new → Adds old (a ++ b) new
+adds_both {old} a b first second =
+    record {
+      fits = omega (arith, first.puts.says, second.fits, page_length a first, length-append a b);
+      same = second.same ∙ first.same;
+      puts = then old.out.now old.at a first.fits b first.puts second.puts;
+    }
 
 -- the first part fits where the whole does
 pub part_fits : (n m : ℕ) (rest a b : List ℕ) → n + length rest ≤ m → rest ≡ a ++ b → n + length a ≤ m
@@ -43,11 +38,10 @@ pub record ToCome (whole : List ℕ) (page : Page) (rest : List ℕ) : Type 0 wh
 -- then the part a was added, and b is still to come
 pub less_to_come : {page mid : Page} {whole rest : List ℕ} (a b : List ℕ) → Adds page a mid → ToCome whole page rest → rest ≡ a ++ b → ToCome whole mid b
 less_to_come {page} {mid} {whole} {rest} a b first going parts =
-    let both : Fits page (a ++ b) = rw parts at going.room in
     record {
-      room = fits_second a b both first;
+      room = omega (arith, going.room, first.puts.says, page_length a first, ap length parts, length-append a b);
       makes =
-          put_after page.out.now page.at a (part_fits page.at (length page.out.now) rest a b going.room parts) b first.puts
+          put_after page.out.now page.at a first.fits b first.puts
           ∙ ap (put page.out.now page.at) (sym parts)
           ∙ going.makes;
     }

@@ -7,8 +7,9 @@ use Rattle.print.specs.declared.Page.{Page}
 abbrev pub Fits : Page → List ℕ → Type 0
 Fits page vs = page.at + length vs ≤ length page.out.now
 
--- bytes are put at the page's place, and the place moves to their end
+-- bytes, for which there is room, are put at the page's place, and the place moves to their end; the page stays one of the same buffer
 pub record Adds (old : Page) (vs : List ℕ) (new : Page) : Type 0 where
+  pub fits : Fits old vs
   pub same : new.out.ghost_name ≡ old.out.ghost_name
   pub puts : Puts old.out.now old.at vs new.at new.out.now
 

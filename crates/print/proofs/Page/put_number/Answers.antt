@@ -36,6 +36,7 @@ returns c =
     let self = c.loop-i.self in
     let nothing : c.loop-i.i - self.at ≡ 0 = omega arith in
     record {
+      fits = c.requires;
       same = kept.same;
       puts = record { says = omega arith; leaves = sym (put_none _ self.at _ c.loop-i.v nothing) ∙ kept.put_left ∙ ap (λ (k : ℕ). put c.args.self.now.out.now k (digits c.args.n)) kept.same_at };
     }

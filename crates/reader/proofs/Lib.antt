@@ -1,2 +1,2 @@
--- Laws of the reader: its two numbers stand for its answer, and its promise leaves one outcome.
-pub mod Numbers
+-- The law of the reader: its promise leaves one outcome.
+pub mod Outcome

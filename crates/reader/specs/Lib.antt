@@ -1,2 +1,2 @@
--- What the reader promises, beyond the records of rules.
+-- That what the reader promises leaves one outcome.
 pub mod Reader

@@ -1,19 +1,31 @@
--- `reader::read` meets its contract: the set is read by `read_set`, and the two numbers that its answer is told by stand for it again.
-use Rattle.std.proofs.Common.{ap, ap₂, ◌∙◌}
-use Rattle.rules.specs.Told.{number_told, value_told, read_told}
-use Rattle.reader.specs.Reader.{read_answer_of}
-use Rattle.reader.proofs.Numbers.{numbers_back}
+-- `reader::read` meets its contract: each return is one of the ways in which a reading ends: a line is not as due (7), the table is too short for
+-- the words (6), or they are copied.
+use Rattle.std.proofs.Common.{◌≡◌, ℕ, List, ◌*◌, ◌/◌, ◌≤◌, ◌++◌, length, take, drop, Ok, ap, ◌∙◌, arith}
+use Rattle.std.proofs.Math.Seq.{length-take-le}
+use Rattle.rules.specs.Numbers.{task_most}
+use Rattle.rules.proofs.Calls as calls
 use Rattle.reader.proofs.read.Goals as goal
-use Rattle.std.specs.Prelude.{Result}
-use Rattle.rules.specs.declared.Refusal.{Refusal}
 
-pub returns : goal.returns
-returns c =
-    let outcome = c.read_set-answer.ensures in
-    let code = c.code_of.ensures ∙ ap (λ (a : Result ℕ Refusal). number_told (read_told a)) outcome.says in
-    let value = c.number_in.ensures ∙ ap (λ (a : Result ℕ Refusal). value_told (read_told a)) outcome.says in
+-- a line is not as due
+pub returns-in-Err : goal.returns-in-Err
+returns-in-Err c = let stops = c.in-Err.ensures in rw stops.refuses (calls.read_stops _ _ stops.line stops.says)
+
+-- the table is too short
+pub returns-then-table-set : goal.returns-then-table-set
+returns-then-table-set c = calls.read_short _ _ _ _ c.in-Ok.ensures.says c.if-table-set.true
+
+-- the words are copied
+pub returns-else-table-set : goal.returns-else-table-set
+returns-else-table-set c =
+    let set = c.in-Ok.ensures in
+    let few : c.in-Ok.n ≤ task_most = set.few in
+    let table = c.args.table.now in
+    let words = take (4 * c.in-Ok.n) c.scan_set.new.words in
+    let all_there : length words ≡ 4 * c.in-Ok.n = length-take-le _ _ (omega arith) in
+    let tasks_are : c.in-Ok.n ≡ length words / 4 = omega (arith, all_there) in
+    let outcome = calls.read_set_law c.args.text.now table words _ set.says c.if-table-set.false in
     record {
-      reads = record { says = ap₂ read_answer_of code value ∙ numbers_back _ _; hands_back = outcome.hands_back; leaves = outcome.leaves };
-      code_is = code;
-      number_is = value;
+      says = ap Ok tasks_are ∙ outcome.says;
+      hands_back = outcome.hands_back;
+      leaves = ap (λ (l : List ℕ). l ++ drop (length words) table) c.copy_from_slice.ensures.after ∙ outcome.leaves;
     }

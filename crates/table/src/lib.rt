@@ -29,27 +29,19 @@ pub fn task_at(table: &[u32], i: usize) -> Task
 }
 
 // The least value of the word at an index: R may be 0.
+#[tactic(auto, using(rules::proofs::TableSteps::least_r, rules::proofs::TableSteps::least_other))]
 pub fn word_least(i: usize) -> u32
     ensures { result ≡ word_least i }
 {
-    if i % 4 == 3 {
-        return 0;
-    }
-    1
+    if i % 4 == 3 { 0 } else { 1 }
 }
 
 // Whether the word at an index is in its range.
+#[tactic(auto, using(rules::proofs::TableSteps::too_low, rules::proofs::TableSteps::too_high, rules::proofs::TableSteps::in_between))]
 fn in_range(i: usize, x: u32) -> bool
     ensures { result ≡ in_range i x }
 {
-    let least = word_least(i);
-    if x < least {
-        return false;
-    }
-    if x > WORD_MOST {
-        return false;
-    }
-    true
+    (word_least(i)..=WORD_MOST).contains(&x)
 }
 
 // Refusal 4, with the index of the first word out of its range.
@@ -57,18 +49,18 @@ fn check_words(table: &[u32]) -> Result<(), Refusal>
     requires { length table.now ≤ table_most }
     ensures { result ≡ answering (out_of_range 0 table.now) Err (Ok tt) }
 {
-    let mut i: usize = 0;
-    while i < table.len() {
-        let fits = in_range(i, table[i]);
-        if !fits {
-            return Err(Refusal::OutOfRange(i as u32));
-        }
-        i += 1;
+    match table
+        .iter()
+        .enumerate()
+        .position(|(i, word)| !in_range(i, *word))
+    {
+        Some(i) => Err(Refusal::OutOfRange(i as u32)),
+        None => Ok(()),
     }
-    Ok(())
 }
 
 // Whether a table is one: refusals 1, 2, 3, 4, in this order.
+#[tactic(auto, using(rules::proofs::TableSteps::no_word, rules::proofs::TableSteps::not_fours, rules::proofs::TableSteps::too_many, rules::proofs::TableSteps::by_words))]
 pub fn check_table(table: &[u32]) -> Result<(), Refusal>
     ensures { result ≡ table_answer table.now }
 {
@@ -95,10 +87,8 @@ pub struct Tasks<'a> {
 impl<'a> Tasks<'a> {
     // The tasks of a table; or its refusal, 1 to 4.
     pub fn new(words: &'a [u32]) -> Result<Tasks<'a>, Refusal>
-        ensures {
-            MatchResult result (λ tasks. (table_refusal words.now ≡ None) × (tasks.words.now ≡ words.now))
-            (λ why. table_refusal words.now ≡ Some why)
-        }
+        ensures { MatchResult result (λ tasks. (table_refusal words.now ≡ None) × (tasks.words.now ≡ words.now))
+            (λ why. table_refusal words.now ≡ Some why) }
     {
         check_table(words)?;
         Ok(Tasks { words })
@@ -125,9 +115,5 @@ pub fn copy_words(from: &[u32], n: usize, to: &mut [u32])
     requires { (n ≤ length from.now) × (n ≤ length to.old) }
     ensures { to.new ≡ take n from.now ++ drop n to.old }
 {
-    let mut i = 0;
-    while i < n {
-        to[i] = from[i];
-        i += 1;
-    }
+    to[..n].copy_from_slice(&from[..n]);
 }

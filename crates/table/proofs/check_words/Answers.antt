@@ -1,27 +1,45 @@
--- `table::check_words` names the first word out of its range: each step either stops at word i or leaves the decision to those after it.
-use Rattle.std.proofs.Common.{sym, ap, ◌∙◌, arith}
-use Rattle.rules.specs.Refusals.{answering}
-use Rattle.rules.specs.declared.Refusal.{Refusal}
-use Rattle.rules.proofs.TableSteps.{past_all, word_fits, word_out}
+-- `table::check_words` names the first word out of its range: `position` finds it as the definition does, which looks at one word after the other.
+use Rattle.std.proofs.Common.{ℕ, ◌≡◌, List, [], ◌∷◌, Bool, true, false, not, ◌+◌, refl, add-one, rules, tests}
+use Rattle.std.specs.List.{enumerate_from, position_from}
+use Rattle.std.specs.Option.{option_map}
+use Rattle.std.proofs.lemmas.Iterator.{YieldsList-from_slice}
+use Rattle.std.proofs.lemmas.Iterator.Consumers.{YieldsList-from_enumerate}
+use Rattle.std.proofs.lemmas.Iterator.Search.{position_from_yields_List}
+use Rattle.std.proofs.lemmas.Iterator.Adapters.{position_from-zero}
+use Rattle.rules.specs.Table.{in_range, out_of_range}
+use Rattle.rules.specs.declared.Refusal.TheVariants.{OutOfRange}
 use Rattle.table.proofs.check_words.Goals as goal
-use Rattle.std.specs.Prelude.{Option, Result, Ok, Err}
 
-abbrev answer : Option Refusal → Result (Unit {0}) Refusal
-answer o = answering o Err (Ok tt)
+-- a word, with its index, is out of its range
+abbrev is_out : ℕ × ℕ → Bool
+is_out p = not (in_range p.0 p.1)
 
--- word i is out of its range
-pub returns-then-not-fits : goal.returns-then-not-fits
-returns-then-not-fits c =
-    ap answer (sym (word_out _ c.loop-i.i c.loop-i-test.true (sym c.in_range-fits.ensures ∙ c.if-not-fits.true)) ∙ c.loop-i.invariant.left_decide)
+-- the first such word of those from index i on
+first_out : (i : ℕ) (w : List ℕ) → out_of_range i w ≡ option_map OutOfRange (position_from is_out i (enumerate_from i w))
+unfolding out_of_range
+first_out i [] = refl
+first_out i (x ∷ w) = go (in_range i x) refl (first_out (i + 1) w)
+  where
+    go : (b : Bool) → in_range i x ≡ b
+        → out_of_range (i + 1) w ≡ option_map OutOfRange (position_from is_out (i + 1) (enumerate_from (i + 1) w))
+        → out_of_range i (x ∷ w) ≡ option_map OutOfRange (position_from is_out i (enumerate_from i (x ∷ w)))
+    go true e later = rw (e, ← add-one i) later
+    go false e later = rw e
 
--- word i fits
-pub loop-i-preserved : goal.loop-i-preserved
-loop-i-preserved c = record {
-  in_range = omega arith;
-  left_decide =
-      sym (word_fits _ c.loop-i.i c.loop-i-test.true (sym c.in_range-fits.ensures ∙ c.if-not-fits.false)) ∙ c.loop-i.invariant.left_decide;
-}
+pub returns-in-Some : goal.returns-in-Some
+returns-in-Some c =
+    let w = c.args.table.now in
+    let at =
+    position_from_yields_List is_out _ _ c.position.result c.position.ensures.ran (YieldsList-from_enumerate (YieldsList-from_slice w (cc)) (cc))
+    (λ x b q k. search (rules, tests))
+    in
+    rw (first_out 0 w, ← position_from-zero is_out (enumerate_from 0 w), ← at, c.in-Some.is)
 
--- no word is left
-pub returns : goal.returns
-returns c = ap answer (sym (past_all _ c.loop-i.i c.loop-i-test.false) ∙ c.loop-i.invariant.left_decide)
+pub returns-in-None : goal.returns-in-None
+returns-in-None c =
+    let w = c.args.table.now in
+    let at =
+    position_from_yields_List is_out _ _ c.position.result c.position.ensures.ran (YieldsList-from_enumerate (YieldsList-from_slice w (cc)) (cc))
+    (λ x b q k. search (rules, tests))
+    in
+    rw (first_out 0 w, ← position_from-zero is_out (enumerate_from 0 w), ← at, c.in-None.is)

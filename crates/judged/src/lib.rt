@@ -4,7 +4,6 @@
 ghost use Rattle.judged.specs.First.{Judges};
 
 use rules::{Refusal, Verdict};
-use scan::Scan;
 use table::TABLE_MOST;
 
 // What is found of the first set: the verdict or the refusal, and how many bytes are left to read.
@@ -19,15 +18,13 @@ pub fn judge_first(text: &[u8]) -> First
     ensures { Judges text.now result }
 {
     let mut words = [0u32; TABLE_MOST];
-    let mut rest = text;
-    let scan = scan::scan_set(text, &mut words, &mut rest);
-    match scan {
-        Scan::Whole(n) => First {
+    match scan::scan_set(text, &mut words) {
+        Ok((n, rest)) => First {
             answer: verdict::verdict(&words[..4 * n as usize]),
             left: rest.len(),
         },
-        Scan::Stop(l) => First {
-            answer: Err(Refusal::BadLine(l)),
+        Err(r) => First {
+            answer: Err(r),
             left: 0,
         },
     }

@@ -5,12 +5,12 @@ use Rattle.rules.proofs.Calls.{first_stops, first_read}
 use Rattle.rules.proofs.Printed.{rest_stops, rest_read}
 use Rattle.judged.proofs.judge_first.Goals as goal
 
-pub returns-in-Whole : goal.returns-in-Whole
-returns-in-Whole c =
-    let set = sym c.in-Whole.ensures.says in
+pub returns-in-Ok : goal.returns-in-Ok
+returns-in-Ok c =
+    let set = c.in-Ok.ensures.says in
     record { says = c.verdict.ensures.says ∙ sym (first_read _ _ _ set); leaves = ap length (sym (rest_read _ _ _ set)) }
 
-pub returns-in-Stop : goal.returns-in-Stop
-returns-in-Stop c =
-    let line = sym c.in-Stop.ensures.says in
-    record { says = sym (first_stops _ _ line); leaves = ap length (sym (rest_stops _ _ line)) }
+pub returns-in-Err : goal.returns-in-Err
+returns-in-Err c =
+    let stops = c.in-Err.ensures in
+    rw stops.refuses (record { says = sym (first_stops _ _ stops.says); leaves = ap length (sym (rest_stops _ _ stops.says)) })

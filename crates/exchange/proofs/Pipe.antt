@@ -20,10 +20,10 @@ use Rattle.rules.proofs.Tables.{valid_of}
 use Rattle.rules.proofs.SetTrips.{write_then_read, set_back}
 use Rattle.rules.proofs.SheetTrips.{sheet_then_table}
 use Rattle.rules.proofs.TextLengths.{sheet_most}
-use Rattle.exchange.specs.Exchange.{reading_refusal, words_in, written, made, told, exchanged, Piped, ThereAndBack}
+use Rattle.exchange.specs.Exchange.{reading_refusal, words_in, written, refusal_of, made, told, exchanged, Piped, ThereAndBack}
 use Rattle.wording.specs.declared.Source.{Source}
 use Rattle.wording.specs.Wording.{sentence, too_long}
-use Rattle.exchange.proofs.Becomes.{is_fine}
+use Rattle.exchange.proofs.Becomes.{is_made}
 use Rattle.std.specs.Prelude.{Option, Some, None}
 
 -- what was made is written of the input's words, a table that is not refused
@@ -57,9 +57,11 @@ there_and_back text sheet words rest e f =
     let fine : table_refusal words ≡ None = ap (λ (k : Lines). table_refusal (words_read k)) (sym e) ∙ m.0 in
     let is : sheet ≡ write_sheet words = m.1 ∙ ap (λ (k : Lines). write_sheet (words_read k)) e in
     let read : read_sheet sheet ≡ tasks words = ap read_sheet is ∙ sheet_then_table words fine in
-    let unrefused : record_refusal (read_sheet sheet) ≡ None = ap record_refusal read ∙ some_tasks words (omega (arith, (valid_of words fine).words, (valid_of words fine).some_task)) in (
+    let unrefused : refusal_of Source.Sheet sheet ≡ None =
+    ap (λ (k : Sheet). first_of (record_refusal k ∷ table_refusal (sheet_words k) ∷ [])) read ∙ ap (λ (o : Option Refusal). first_of (o ∷ table_refusal words ∷ [])) (some_tasks words (omega (arith, (valid_of words fine).words, (valid_of words fine).some_task))) ∙ ap (λ (o : Option Refusal). first_of (o ∷ [])) fine
+    in (
       write_set words,
-      sym (is_fine Source.Sheet sheet (omega (arith, ap length is, sheet_most words fine)) unrefused (ap (λ (k : Sheet). table_refusal (sheet_words k)) read ∙ fine))
+      sym (is_made Source.Sheet sheet (omega (arith, ap length is, sheet_most words fine)) unrefused)
           ∙ ap (λ (k : Sheet). made (write_set (sheet_words k))) read,
       sym (set_back text words rest e).text,
     )

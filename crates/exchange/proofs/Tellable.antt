@@ -1,23 +1,25 @@
 -- A refusal that is told: it has words for what is wrong, and a 4 names a word of the table. The readers give 7, 13, 14 and 15, and of a table with
 -- four words a task there is nothing to refuse but a word.
-use mathlib.Core.Path.{◌≡◌, subst}
+use mathlib.Core.Path.{◌≡◌, refl, sym, subst, ◌∙◌}
 use Prim.Native.Nat.{ℕ}
 use native.Mathlib.Omega.{arith}
 use mathlib.Core.List.{List, [], ◌∷◌}
 use lib.Dec.{eqb}
+use Rattle.rules.specs.Refusals.{first_of}
 use Rattle.rules.specs.Table.{table_refusal}
 use Rattle.rules.specs.Text.{Lines, took, stop, read_set}
 use Rattle.rules.specs.Sheet.{Sheet, tasks, wrong, no_header, read_sheet}
 use Rattle.rules.specs.Answers.{line_refusal, record_refusal}
 use Rattle.rules.specs.declared.Refusal.{Refusal}
 use Rattle.rules.specs.declared.Refusal.TheVariants.{OutOfRange, NoHeader, BadRecord, NoRecord, BadLine}
+use Rattle.rules.proofs.Calls.{alone}
 use Rattle.rules.proofs.Booleans.{impossible, chosen}
 use Rattle.rules.proofs.Refused.{TableSays, table_says}
 use Rattle.rules.proofs.Rooms.{Fours, set_fours, sheet_words_fours}
-use Rattle.exchange.specs.Exchange.{reading_refusal, words_in}
+use Rattle.exchange.specs.Exchange.{reading_refusal, words_in, refusal_of}
 use Rattle.wording.specs.declared.Source.{Source}
 use Rattle.wording.specs.Wording.{wrong_in, InTable}
-use Rattle.std.specs.Prelude.{Some, None}
+use Rattle.std.specs.Prelude.{Option, Some, None}
 
 pub record Tellable (source : Source) (r : Refusal) : Type 0 where
   pub named : InTable r
@@ -31,7 +33,7 @@ range_worded Source.Sheet i e = impossible cc
 range_worded Source.Text i e = impossible cc
 
 -- THE READERS'
-pub reading_tellable : (source : Source) (input : List ℕ) (r : Refusal) → reading_refusal source input ≡ Some r → Tellable source r
+reading_tellable : (source : Source) (input : List ℕ) (r : Refusal) → reading_refusal source input ≡ Some r → Tellable source r
 reading_tellable Source.Sheet input r = by_sheet (read_sheet input)
   where
     by_sheet : (k : Sheet) → record_refusal k ≡ Some r → Tellable Source.Sheet r
@@ -53,7 +55,7 @@ words_fours Source.Sheet input e = sheet_words_fours input e
 words_fours Source.Text input e = set_fours input e
 
 -- and its table's refusal is a word's
-pub table_tellable : (source : Source) (ws : List ℕ) (r : Refusal) → Fours ws → table_refusal ws ≡ Some r → Tellable source r
+table_tellable : (source : Source) (ws : List ℕ) (r : Refusal) → Fours ws → table_refusal ws ≡ Some r → Tellable source r
 table_tellable source ws r four e = by_case r ((table_says ws (Some r)).0 e)
   where
     by_case : (r : Refusal) → TableSays ws (Some r) → Tellable source r
@@ -62,3 +64,11 @@ table_tellable source ws r four e = by_case r ((table_says ws (Some r)).0 e)
     by_case r (TableSays.too_many a b c) = absurd (omega (arith, four.few))
     by_case r (TableSays.out_of_range_law {i = i} a b c first) =
         record { named = λ k g. let same : k ≡ i = cc in omega (arith, first.known, same); worded = range_worded source i }
+
+-- so is any that is told
+pub tellable : (source : Source) (input : List ℕ) (r : Refusal) → refusal_of source input ≡ Some r → Tellable source r
+tellable source input r = by_reading (reading_refusal source input) refl
+  where
+    by_reading : (o : Option Refusal) → reading_refusal source input ≡ o → first_of (o ∷ table_refusal (words_in source input) ∷ []) ≡ Some r → Tellable source r
+    by_reading (Some s) e f = reading_tellable source input r (e ∙ f)
+    by_reading None e f = table_tellable source (words_in source input) r (words_fours source input e) (sym (alone (table_refusal (words_in source input))) ∙ f)

@@ -1,5 +1,5 @@
 -- What becomes of an input: of a sheet the text of its set, of a text the sheet of its first set; or the words for what is wrong.
-use Rattle.std.specs.Prelude.{◌≡◌, ℕ, ◌/◌, List, [], ◌∷◌, ◌++◌, ltb, length, drop, if◌then◌else◌}
+use Rattle.std.specs.Prelude.{◌≡◌, ℕ, ◌/◌, List, [], ◌∷◌, ◌++◌, ltb, length, drop, if◌then◌else◌, Option, Some, Result, Ok, Err}
 use Rattle.rules.specs.Numbers.{input_most}
 use Rattle.rules.specs.Refusals.{first_of, answering, lent}
 use Rattle.rules.specs.Table.{table_refusal}
@@ -9,8 +9,6 @@ use Rattle.rules.specs.Answers.{line_refusal, record_refusal}
 use Rattle.rules.specs.declared.Refusal.{Refusal}
 use Rattle.wording.specs.declared.Source.{Source}
 use Rattle.wording.specs.Wording.{wrong_in, sentence, too_long}
-use Rattle.exchange.specs.declared.Made.{Made}
-use Rattle.std.specs.Prelude.{Option, Some, Result, Ok, Err}
 
 -- WHAT BECOMES OF AN INPUT
 -- the refusal of its reading: 13, 14, 15 for a sheet, 7 for a text
@@ -53,23 +51,28 @@ pub record ReadsTable (source : Source) (input table : List ℕ) (answer : Resul
   pub says : answer ≡ answering (reading_refusal source input) Err (Ok (length (words_in source input) / 4))
   pub leaves : exit ≡ lent (reading_refusal source input) (words_in source input) table
 
+-- the writing of what is made of an input's table
+pub record MakesOther (source : Source) (input out : List ℕ) (answer : Result ℕ Refusal) (exit : List ℕ) : Type 0 where
+  pub says : answer ≡ answering (refusal_of source input) Err (Ok (length (written source (words_in source input))))
+  pub leaves : exit ≡ lent (refusal_of source input) (written source (words_in source input)) out
+
 -- an outcome's bytes, and the answer with their length
 abbrev pub bytes_of : Outcome → List ℕ
 bytes_of (made vs) = vs
 bytes_of (told vs) = vs
 
-abbrev pub answer_of : Outcome → Made
-answer_of (made vs) = Made.Bytes (length vs)
-answer_of (told vs) = Made.Told (length vs)
+abbrev pub answer_of : Outcome → Result ℕ ℕ
+answer_of (made vs) = Ok (length vs)
+answer_of (told vs) = Err (length vs)
 
 -- they stand at the start of the lent bytes, which stay the same beyond
-pub record Gives (outcome : Outcome) (out : List ℕ) (answer : Made) (exit : List ℕ) : Type 0 where
+pub record Gives (outcome : Outcome) (out : List ℕ) (answer : Result ℕ ℕ) (exit : List ℕ) : Type 0 where
   pub says : answer ≡ answer_of outcome
   pub leaves : exit ≡ bytes_of outcome ++ drop (length (bytes_of outcome)) out
 
 -- two outcomes of one call are equal
 abbrev pub GivesOne : Type 0
-GivesOne = (outcome : Outcome) (out : List ℕ) (a b : Made) (e f : List ℕ) → Gives outcome out a e → Gives outcome out b f → (a ≡ b) × (e ≡ f)
+GivesOne = (outcome : Outcome) (out : List ℕ) (a b : Result ℕ ℕ) (e f : List ℕ) → Gives outcome out a e → Gives outcome out b f → (a ≡ b) × (e ≡ f)
 
 -- every refusal that is told has words for what is wrong
 abbrev pub AllWorded : Type 0

@@ -6,4 +6,4 @@ pub returns-in-Sheet : goal.returns-in-Sheet
 returns-in-Sheet c = rw c.in-Sheet.is (read_sheet _ _ c.requires c.read_sheet.ensures)
 
 pub returns-in-Text : goal.returns-in-Text
-returns-in-Text c = rw c.in-Text.is (read_text _ _ c.requires c.read_answer.ensures c.read.ensures.reads)
+returns-in-Text c = rw c.in-Text.is (read_text _ _ c.requires c.read.ensures)

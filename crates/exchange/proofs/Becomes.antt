@@ -41,27 +41,19 @@ room_for Source.Text table e = omega (arith, sheet_most table e)
 module _ (source : Source) (input : List ℕ) where
   -- THE READING
   module _ {table : List ℕ} {answer : Result ℕ Refusal} {words : List ℕ} (reads : ReadsTable source input table answer words) where
-    -- is refused
-    pub when_unread : (r : Refusal) (out : List ℕ) → answer ≡ Err r → MakesOther source input out (Err r) out
-    when_unread r out e =
-        let refused : reading_refusal source input ≡ Some r =
-        was_refused Err _ (λ s f. impossible cc) (λ s t f. cc) (reading_refusal source input) r (sym e ∙ reads.says)
-        in
-        record { says = rw refused refl; leaves = rw refused refl }
-
-    -- is not: its words stand at the start of the table
+    -- is not refused: its words stand at the start of the table
     module _ (n : ℕ) (e : answer ≡ Ok n) where
-      done : (reading_refusal source input ≡ None) × (Ok n ≡ Ok (length (words_in source input) / 4))
-      done = was_done Err _ (Ok n) (λ r f. impossible cc) (reading_refusal source input) (sym e ∙ reads.says)
+      done : (reading_refusal source input ≡ None) × (n ≡ length (words_in source input) / 4)
+      done =
+          let d = was_done Err (Ok (length (words_in source input) / 4)) (Ok n) (λ r f. impossible cc) (reading_refusal source input) (sym e ∙ reads.says) in
+          let f = d.1 in
+          (d.0, cc)
 
       fours : Fours (words_in source input)
       fours = words_fours source input done.0
 
       count_is : 4 * n ≡ length (words_in source input)
-      count_is =
-          let f = done.1 in
-          let g : n ≡ length (words_in source input) / 4 = cc in
-          omega (arith, fours.fours)
+      count_is = omega (arith, fours.fours, done.1)
 
       stand : words ≡ lent None (words_in source input) table
       stand = reads.leaves ∙ ap (λ (o : Option Refusal). lent o (words_in source input) table) done.0

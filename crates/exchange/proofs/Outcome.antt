@@ -13,7 +13,7 @@ use Rattle.print.proofs.Putting.{put_start}
 use Rattle.exchange.specs.Exchange.{reading_refusal, words_in, Outcome, made, told, bytes_of, answer_of, Gives, GivesOne, AllWorded}
 use Rattle.wording.specs.Wording.{wrong_in}
 use Rattle.exchange.proofs.Tellable.{tellable}
-use Rattle.std.specs.Prelude.{Option, Some, None}
+use Rattle.std.specs.Prelude.{Err}
 
 pub gives_one : GivesOne
 gives_one outcome out a b e f p q = (p.says ∙ sym q.says, p.leaves ∙ sym q.leaves)

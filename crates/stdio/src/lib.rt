@@ -53,6 +53,7 @@ impl Tries {
     }
 }
 
+// Kept: (d) read_input and write_output stay two loops: one over a closure would have to say by its steps what each stream's contract says at once.
 // Standard input is read to its end, however many reads that takes. The buffer is longer than the longest input, so one that fills it is too long.
 pub fn read_input<R: Read>(input: &mut R, buf: &mut [u8]) -> Result<usize, InputError>
     requires { input_most < length buf.old }

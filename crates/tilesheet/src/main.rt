@@ -23,7 +23,18 @@ fn tell_use<E: Write>(stderr: &mut E) {
 // Whether argument 1 is --back.
 fn is_back<A: Env>(rt: &A) -> bool {
     let mut word = [0u8; 6];
-    matches!(rt.arg(1, &mut word), Ok(n) if word[..n] == *b"--back")
+    matches!(rt.arg(1, &mut word), Ok(n) if word[..n] == b"--back"[..])
+}
+
+// What the program is called for: without an argument to read a sheet, with --back alone a text. Any other use is wrong.
+fn source_asked<A: Env>(rt: &A) -> Option<Source> {
+    if !has_argument(rt, 1) {
+        Some(Source::Sheet)
+    } else if !has_argument(rt, 2) && is_back(rt) {
+        Some(Source::Text)
+    } else {
+        None
+    }
 }
 
 // What is made of an input is printed; or what is wrong is told on standard error. The answer is the exit status.
@@ -62,15 +73,10 @@ fn exchange_input<R: Read, W: Write, E: Write>(
 }
 
 fn main(rt: HostRuntime) -> ExitCode {
-    let mut stdin = rt.stdin();
-    let mut stdout = rt.stdout();
     let mut stderr = rt.stderr();
-    if !has_argument(&rt, 1) {
-        return exchange_input(&mut stdin, &mut stdout, &mut stderr, Source::Sheet);
-    }
-    if !has_argument(&rt, 2) && is_back(&rt) {
-        return exchange_input(&mut stdin, &mut stdout, &mut stderr, Source::Text);
-    }
-    tell_use(&mut stderr);
-    ExitCode::SUCCESS
+    let Some(source) = source_asked(&rt) else {
+        tell_use(&mut stderr);
+        return ExitCode::SUCCESS;
+    };
+    exchange_input(&mut rt.stdin(), &mut rt.stdout(), &mut stderr, source)
 }

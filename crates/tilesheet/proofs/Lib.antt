@@ -1,2 +1,0 @@
--- What of an input is printed.
-mod Printing

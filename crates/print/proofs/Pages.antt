@@ -26,6 +26,10 @@ adds_both {old} a b first second =
       puts = then old.out.now old.at a first.fits b first.puts second.puts;
     }
 
+-- after the first part there is room for the second
+pub fits_second : {old mid : Page} (a b : List ℕ) → Fits old (a ++ b) → Adds old a mid → Fits mid b
+fits_second a b room first = omega (arith, room, first.puts.says, page_length a first, length-append a b)
+
 -- the first part fits where the whole does
 pub part_fits : (n m : ℕ) (rest a b : List ℕ) → n + length rest ≤ m → rest ≡ a ++ b → n + length a ≤ m
 part_fits n m rest a b room parts = omega (arith, room, ap length parts, length-append a b)

@@ -1,13 +1,14 @@
 // The words for what is wrong with a sheet or with a text, put into a lent buffer.
 #![tactic(auto)]
 
-ghost use Rattle.std.specs.Prelude.{◌+◌, ◌≤◌, ◌<◌, ◌++◌, length};
+ghost use Rattle.std.specs.Prelude.{◌≤◌, ◌<◌, length};
 ghost use Rattle.rules.specs.Numbers.{table_most};
-ghost use Rattle.rules.specs.Text.{digits};
 ghost use Rattle.rules.specs.Sheet.{name_of};
 ghost use Rattle.print.specs.Place.{Puts};
+ghost use Rattle.print.specs.Pages.{Fits, Adds};
 ghost use Rattle.wording.specs.Wording.{place, bad_record, wrong_in, sentence, too_long, InTable};
 
+use print::Page;
 use rules::{DEADLINE, EXECUTION, PERIOD, RELEASE, Refusal};
 
 // Where something is wrong: in a sheet, or in a text.
@@ -17,107 +18,94 @@ pub enum Source {
     Text,
 }
 
-// Words, a number and words are put at a place.
-fn put_phrase(out: &mut [u8], at: usize, before: &[u8], n: u32, after: &[u8]) -> usize
-    requires { at + length (before.now ++ (digits n ++ after.now)) ≤ length out.old }
-    ensures { Puts out.old at (before.now ++ (digits n ++ after.now)) result out.new }
-{
-    let after_words = print::put_bytes(out, at, before);
-    let after_number = print::put_number(out, after_words, n);
-    print::put_bytes(out, after_number, after)
-}
-
-// The name of a column is put at a place.
-fn put_column(out: &mut [u8], at: usize, which: u32) -> usize
-    requires { (which < 4) × (at + length (name_of which) ≤ length out.old) }
-    ensures { Puts out.old at (name_of which) result out.new }
+// The name of a column is put on a page.
+fn put_column(page: &mut Page, which: u32)
+    requires { (which < 4) × Fits page.old (name_of which) }
+    ensures { Adds page.old (name_of which) page.new }
 {
     match which {
-        0 => print::put_bytes(out, at, &EXECUTION),
-        1 => print::put_bytes(out, at, &DEADLINE),
-        2 => print::put_bytes(out, at, &PERIOD),
-        _ => print::put_bytes(out, at, &RELEASE),
+        0 => page.put_bytes(&EXECUTION),
+        1 => page.put_bytes(&DEADLINE),
+        2 => page.put_bytes(&PERIOD),
+        _ => page.put_bytes(&RELEASE),
     }
 }
 
-// Where word i of the table stands is put at a place.
-fn put_place(out: &mut [u8], at: usize, source: Source, i: u32) -> usize
-    requires { (i < table_most) × (at + length (place source i) ≤ length out.old) }
-    ensures { Puts out.old at (place source i) result out.new }
+// Where word i of the table stands is put on a page.
+fn put_place(page: &mut Page, source: Source, i: u32)
+    requires { (i < table_most) × Fits page.old (place source i) }
+    ensures { Adds page.old (place source i) page.new }
 {
     match source {
         Source::Sheet => {
-            let after_record = put_phrase(out, at, b"record ", i / 4 + 2, b": ");
-            put_column(out, after_record, i % 4)
+            page.put_phrase(b"record ", i / 4 + 2, b": ");
+            put_column(page, i % 4);
         }
         Source::Text => {
-            let after_word = print::put_bytes(out, at, b"line ");
-            print::put_number(out, after_word, i + 2)
+            page.put_bytes(b"line ");
+            page.put_number(i + 2);
         }
     }
 }
 
-// That word i is out of its range is put at a place.
-fn put_out_of_range(out: &mut [u8], at: usize, source: Source, i: u32) -> usize
-    requires { (i < table_most) × (at + length (wrong_in source (Refusal.OutOfRange i)) ≤ length out.old) }
-    ensures { Puts out.old at (wrong_in source (Refusal.OutOfRange i)) result out.new }
+// That word i is out of its range is put on a page.
+fn put_out_of_range(page: &mut Page, source: Source, i: u32)
+    requires { (i < table_most) × Fits page.old (wrong_in source (Refusal.OutOfRange i)) }
+    ensures { Adds page.old (wrong_in source (Refusal.OutOfRange i)) page.new }
 {
-    let after_place = put_place(out, at, source, i);
+    put_place(page, source, i);
     let least = table::word_least(i as usize);
-    put_phrase(
-        out,
-        after_place,
-        b" is out of its range, which is ",
-        least,
-        b" to 65535",
-    )
+    page.put_phrase(b" is out of its range, which is ", least, b" to 65535");
 }
 
-// That a record is not as due is put at a place.
-fn put_bad_record(out: &mut [u8], at: usize, l: u32) -> usize
-    requires { at + length (bad_record l) ≤ length out.old }
-    ensures { Puts out.old at (bad_record l) result out.new }
+// That a record is not as due is put on a page.
+fn put_bad_record(page: &mut Page, l: u32)
+    requires { Fits page.old (bad_record l) }
+    ensures { Adds page.old (bad_record l) page.new }
 {
-    if l == 66 {
-        return put_phrase(
-            out,
-            at,
-            b"record ",
-            l,
-            b" is one too many: a tile has at most 64 kernels",
-        );
-    }
-    put_phrase(out, at, b"record ", l, b" is not as due")
+    let wrong: &[u8] = if l == 66 {
+        b" is one too many: a tile has at most 64 kernels"
+    } else {
+        b" is not as due"
+    };
+    page.put_phrase(b"record ", l, wrong);
 }
 
-// What is wrong is put at a place.
-fn put_wrong(out: &mut [u8], at: usize, source: Source, refusal: Refusal) -> usize
-    requires { InTable refusal × (at + length (wrong_in source refusal) ≤ length out.old) }
-    ensures { Puts out.old at (wrong_in source refusal) result out.new }
+// What is wrong is put on a page.
+fn put_wrong(page: &mut Page, source: Source, refusal: Refusal)
+    requires { InTable refusal × Fits page.old (wrong_in source refusal) }
+    ensures { Adds page.old (wrong_in source refusal) page.new }
 {
     match refusal {
-        Refusal::NoHeader => print::put_bytes(
-            out,
-            at,
+        Refusal::NoHeader => page.put_bytes(
             b"the header must name execution, deadline, period and release once each",
         ),
-        Refusal::BadRecord(l) => put_bad_record(out, at, l),
-        Refusal::NoRecord => print::put_bytes(out, at, b"no record comes after the header"),
-        Refusal::OutOfRange(i) => put_out_of_range(out, at, source, i),
-        Refusal::BadLine(l) => put_phrase(out, at, b"line ", l, b" is missing or not as due"),
-        _ => at,
+        Refusal::BadRecord(l) => put_bad_record(page, l),
+        Refusal::NoRecord => page.put_bytes(b"no record comes after the header"),
+        Refusal::OutOfRange(i) => put_out_of_range(page, source, i),
+        Refusal::BadLine(l) => page.put_phrase(b"line ", l, b" is missing or not as due"),
+        _ => {}
     }
 }
 
-// The line for a refusal is put at the start of out: what is wrong, and the refusal's number.
+// The line for a refusal is put on a page: what is wrong, and the refusal's number.
+fn put_refused(page: &mut Page, source: Source, refusal: Refusal)
+    requires { InTable refusal × Fits page.old (sentence source refusal) }
+    ensures { Adds page.old (sentence source refusal) page.new }
+{
+    page.put_bytes(b"tilecheck: ");
+    put_wrong(page, source, refusal);
+    page.put_phrase(b" (refusal ", numbers::refusal_number(refusal), b")\n");
+}
+
+// The line for a refusal is put at the start of out.
 pub fn put_sentence(out: &mut [u8], source: Source, refusal: Refusal) -> usize
     requires { InTable refusal × (length (sentence source refusal) ≤ length out.old) }
     ensures { Puts out.old 0 (sentence source refusal) result out.new }
 {
-    let after_name = print::put_bytes(out, 0, b"tilecheck: ");
-    let after_wrong = put_wrong(out, after_name, source, refusal);
-    let number = numbers::refusal_number(refusal);
-    put_phrase(out, after_wrong, b" (refusal ", number, b")\n")
+    let mut page = Page { out, at: 0 };
+    put_refused(&mut page, source, refusal);
+    page.at
 }
 
 // The line for an input that is too long is put at the start of out.
@@ -125,5 +113,7 @@ pub fn put_too_long(out: &mut [u8]) -> usize
     requires { length too_long ≤ length out.old }
     ensures { Puts out.old 0 too_long result out.new }
 {
-    print::put_bytes(out, 0, b"tilecheck: the input has more than 32768 bytes\n")
+    let mut page = Page { out, at: 0 };
+    page.put_bytes(b"tilecheck: the input has more than 32768 bytes\n");
+    page.at
 }

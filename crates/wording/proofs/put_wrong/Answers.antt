@@ -1,4 +1,4 @@
--- `wording::put_wrong` meets its contract: each arm puts the words for the refusal that it has found, and the last puts none.
+-- The words for a line.
 use Rattle.wording.proofs.put_wrong.Goals as goal
 
 pub returns-in-BadLine : goal.returns-in-BadLine

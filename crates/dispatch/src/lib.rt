@@ -3,70 +3,66 @@
 
 ghost use Rattle.std.specs.Prelude.{◌≡◌, ◌*◌, ◌^◌, ◌<◌, ◌≤◌, length};
 ghost use Rattle.rules.specs.Task.{tasks_of};
-ghost use Rattle.rules.specs.Table.{ValidTable};
 ghost use Rattle.rules.specs.Jobs.{planned};
 ghost use Rattle.rules.specs.Calls.{Dispatches};
 
-use arith::wide;
-use row::{Lateness, answer, noted, put_row};
-use rules::{Plan, Refusal, Timing};
-use table::{TASK_MOST, task_at};
+use row::{noted, put_row};
+use rules::{Late, Plan, Refusal, Timing};
+use table::{TASK_MOST, Tasks};
 use trains::count_of;
-use turn::choose;
+use turn::Waiting;
 
 // How many jobs a plan has.
-fn count_jobs(table: &[u32], plan: Plan) -> u64
-    requires { ValidTable table.now }
-    ensures { (result ≡ length (planned plan (tasks_of table.now))) × (result < 2 ^ 39) }
+fn count_jobs(tasks: Tasks<'_>, plan: Plan) -> usize
+    ensures { (result ≡ length (planned plan (tasks_of tasks.entry.words.now))) × (result < 2 ^ 39) }
 {
-    let m = table.len() / 4;
-    let mut n: u64 = 0;
-    let mut i: usize = 0;
-    while i < m {
-        n += wide(count_of(plan, i, task_at(table, i)));
-        i += 1;
+    let mut n = 0;
+    for i in 0..tasks.count() {
+        n += count_of(plan, i, tasks.task(i)) as usize;
     }
     n
 }
 
-// Writes the rows of a plan's n jobs, four words a row, and says whether all were on time. Of each task only the number of its next job is kept.
-fn run(table: &[u32], plan: Plan, n: u64, rows: &mut [u64]) -> Result<Timing, Refusal>
-    requires valid_table { ValidTable table.now }
-    requires n_value { n ≡ length (planned plan (tasks_of table.now)) }
+// Writes the rows of a plan's n jobs, four words a row, and tells of them.
+fn run(tasks: Tasks<'_>, plan: Plan, n: usize, rows: &mut [u64]) -> Timing
+    requires n_value { n ≡ length (planned plan (tasks_of tasks.words.now)) }
     requires n_bound { n < 2 ^ 39 }
     requires n_in_bounds { 4 * n ≤ length rows.old }
-    ensures { Dispatches (planned plan (tasks_of table.now)) rows.old result rows.new }
+    ensures { Dispatches (planned plan (tasks_of tasks.entry.words.now)) rows.old (Ok result) rows.new }
 {
-    let m = table.len() / 4;
-    let mut next = [0u32; TASK_MOST];
+    let mut waiting = Waiting {
+        tasks,
+        plan,
+        next: [0; TASK_MOST],
+    };
     let mut t: u64 = 0;
-    let mut late = Lateness::OnTime;
-    let mut k: u64 = 0;
-    while k < n {
-        let turn = choose(table, plan, &next, m, t);
-        let b = turn.task;
-        let q = next[b];
-        let task = task_at(table, b);
-        t = turn.start + wide(task.C);
-        let number = wide(q);
-        put_row(rows, k as usize, b as u64, number, turn.start, t);
-        late = noted(late, b as u64, number, turn.due, t);
-        next[b] = q + 1;
-        k += 1;
+    let mut late: Option<Late> = None;
+    for k in 0..n {
+        let turn = waiting.choose(t).unwrap();
+        let job = Late {
+            task: turn.task as u64,
+            job: u64::from(waiting.next[turn.task]),
+            deadline: turn.due,
+        };
+        t = turn.start + u64::from(tasks.task(turn.task).C);
+        put_row(rows, k, job.task, job.job, turn.start, t);
+        late = noted(late, job, t);
+        waiting.next[turn.task] += 1;
     }
-    answer(n, late)
+    Timing {
+        rows: n as u64,
+        late,
+    }
 }
 
-// Writes the rows of a plan's jobs to the start of a lent buffer: on time or late; or refused, where the buffer is too short, and then
-// nothing is written.
-pub fn dispatch(table: &[u32], plan: Plan, rows: &mut [u64]) -> Result<Timing, Refusal>
-    requires { ValidTable table.now }
-    ensures { Dispatches (planned plan (tasks_of table.now)) rows.old result rows.new }
+// Writes the rows of a plan's jobs to the start of a lent buffer, and tells whether all were on time; or refused, where the buffer is too short,
+// and then nothing is written.
+pub fn dispatch(tasks: Tasks<'_>, plan: Plan, rows: &mut [u64]) -> Result<Timing, Refusal>
+    ensures { Dispatches (planned plan (tasks_of tasks.entry.words.now)) rows.old result rows.new }
 {
-    let n = count_jobs(table, plan);
-    let room = rows.len() as u64;
-    if room < 4 * n {
+    let n = count_jobs(tasks, plan);
+    if rows.len() < 4 * n {
         return Err(Refusal::TooShort);
     }
-    run(table, plan, n, rows)
+    Ok(run(tasks, plan, n, rows))
 }

@@ -1,9 +1,9 @@
 -- The walk over the tasks, from the last down, that finds the next job.
-use mathlib.Core.Path.{◌≡◌, sym, ap, subst, ◌∙◌}
-use Prim.Native.Nat.{ℕ, suc, ◌+◌, ◌-◌, ◌^◌, ◌≤◌, ◌<◌, max}
+use mathlib.Core.Path.{◌≡◌, refl, sym, ap, subst, ◌∙◌}
+use Prim.Native.Nat.{ℕ, suc, ◌+◌, ◌-◌, ◌≤◌, ◌<◌}
 use native.Mathlib.Omega.{arith}
 use mathlib.Core.List.{List, [], ◌∷◌, ◌++◌}
-use lib.ListN.{length, get_or}
+use lib.ListN.{get_or}
 use Rattle.rules.specs.Dispatch.{Job, sooner, pick, ready}
 use Rattle.rules.specs.Jobs.{train}
 use Rattle.rules.specs.Table.{task_in}
@@ -11,17 +11,24 @@ use Rattle.rules.specs.declared.Plan.{Plan}
 use Rattle.rules.proofs.Booleans.{split}
 use Rattle.rules.proofs.Order.{ahead_first, goes_before, sooner_yes, sooner_no}
 use Rattle.rules.proofs.Choosing.{pick_come, pick_not, pick_one, pick_nobody, not_yet, ready_after, ready_one, ready_more, pick_train, ready_train, train_none}
-use Rattle.trains.specs.Releases.{Coming}
 use Rattle.turn.specs.declared.Turn.{Turn}
-use Rattle.turn.specs.Counters.{train_at, release_at, job_at, jobs_at, rest_from, Chosen, Best, nobody, somebody}
-use Rattle.std.specs.Prelude.{Some}
+use Rattle.turn.specs.Counters.{train_at, release_at, job_at, jobs_at, rest_from, Offered, Chosen, Best}
+use Rattle.std.specs.Prelude.{Option, Some, None, Bool, true, false, cond}
+use Rattle.std.specs.declared.cmp.Ordering.{Ordering}
+use Rattle.std.specs.Ordering.{ordering_then, nat_cmp, is_lt, ord_min}
+use Rattle.std.proofs.lemmas.Bool.Decides.{nat_tests}
 
--- the next job of task i: released at r, it could start at a, and is due v after its release
-pub record Offer (w : List ℕ) (p : Plan) (nx : List ℕ) (t m i r a v : ℕ) : Type 0 where
-  pub is_task : i < m
-  pub comes : Coming (train_at w p i) (task_in w i).T (get_or nx i 0) r
-  pub starts : a ≡ max t r
-  pub due_in : v ≡ (task_in w i).D
+-- the order of two turns, by their starts, deadlines and tasks
+abbrev turn_cmp : Turn → Turn → Ordering
+turn_cmp a b = ordering_then (nat_cmp a.start b.start) (ordering_then (nat_cmp a.due b.due) (nat_cmp a.task b.task))
+
+-- what it says where the first is of the lower task
+module _ (y x : Turn) (h : y.task < x.task) where
+  less : is_lt (turn_cmp y x) ≡ true → (y.start ≤ x.start) × (x.start ≤ y.start → y.due ≤ x.due)
+  less e = grind (arith, nat_tests)
+
+  not_less : is_lt (turn_cmp y x) ≡ false → (x.start ≤ y.start) × (y.start ≤ x.start → x.due < y.due)
+  not_less e = grind (arith, nat_tests)
 
 module _ (w : List ℕ) (p : Plan) (nx : List ℕ) (t m : ℕ) where
   abbrev rest : ℕ → List Job
@@ -37,9 +44,10 @@ module _ (w : List ℕ) (p : Plan) (nx : List ℕ) (t m : ℕ) where
       let s : suc i ≡ i + 1 = omega arith in
       ap (λ (n : ℕ). rest_from w p nx n i) e ∙ ap (λ (k : ℕ). jobs_at w p i (get_or nx i 0) ++ rest_from w p nx (m - (i + 1)) k) s
 
-  rest_none : rest m ≡ []
+  -- no task is looked at yet
+  pub best_none : (i : ℕ) → i ≡ m → Best w p nx t m i None
   unfolding rest_from
-  rest_none = let e : m - m ≡ 0 = omega arith in ap (λ (n : ℕ). rest_from w p nx n m) e
+  best_none i h = let e : m - i ≡ 0 = omega arith in ap (λ (n : ℕ). rest_from w p nx n i) e
 
   rest_done : (i : ℕ) → i < m → (train_at w p i).count ≤ get_or nx i 0 → rest i ≡ rest (i + 1)
   rest_done i h d = rest_at i h ∙ train_none _ _ _ _ _ _ (omega arith)
@@ -56,24 +64,11 @@ module _ (w : List ℕ) (p : Plan) (nx : List ℕ) (t m : ℕ) where
     ready_left : ready t (rest i) ≡ ready t (head i ∷ rest (i + 1))
     ready_left = ap (ready t) left ∙ ready_train t _ _ _ _ (task_in w i) _
 
-  -- THE END: where there is a job, one is chosen
-  pub chosen : (i : ℕ) (x : Turn) → i ≤ 0 → 0 < length (rest_from w p nx m 0) → Best w p nx t m i x → Chosen w p nx t m 0 x
-  chosen i x h l (nobody e s) =
-      let z : 0 ≡ i = omega arith in
-      let n : m - 0 ≡ m = omega arith in
-      absurd (omega (arith, ap length (ap rest z ∙ e), ap (λ (k : ℕ). length (rest_from w p nx k 0)) n))
-  chosen i x h l (somebody ch) = let z : i ≡ 0 = omega arith in subst (λ (k : ℕ). Chosen w p nx t m k x) z ch
-
   -- A STEP
-  -- no task is looked at yet
-  pub best_none : (x : Turn) → x.start ≡ 18446744073709551615 → Best w p nx t m m x
-  best_none x e = nobody rest_none e
-
   -- the job found so far is found of the tasks from i on too
-  kept : (i : ℕ) (x : Turn) → Chosen w p nx t m (i + 1) x → ready t (rest i) ≡ x.start → pick x.start (rest i) ≡ Some (head x.task) → Best w p nx t m i x
+  kept : (i : ℕ) (x : Turn) → Chosen w p nx t m (i + 1) x → ready t (rest i) ≡ x.start → pick x.start (rest i) ≡ Some (head x.task) → Chosen w p nx t m i x
   kept i x ch starts picked =
-      somebody
-      (record {
+      record {
         from = omega (arith, ch.from);
         is_task = ch.is_task;
         live = ch.live;
@@ -82,59 +77,86 @@ module _ (w : List ℕ) (p : Plan) (nx : List ℕ) (t m : ℕ) where
         starts = starts;
         due_then = ch.due_then;
         picked = picked;
-      })
+      }
 
   -- task i has no job left
-  pub best_done : (i : ℕ) (x : Turn) → i < m → (train_at w p i).count ≤ get_or nx i 0 → Best w p nx t m (i + 1) x → Best w p nx t m i x
-  best_done i x h d (nobody e s) = nobody (rest_done i h d ∙ e) s
-  best_done i x h d (somebody ch) = kept i x ch (ap (ready t) (rest_done i h d) ∙ ch.starts) (ap (pick x.start) (rest_done i h d) ∙ ch.picked)
+  done : (i : ℕ) (o : Option Turn) → i < m → (train_at w p i).count ≤ get_or nx i 0 → Best w p nx t m (i + 1) o → Best w p nx t m i o
+  done i None h d e = rest_done i h d ∙ e
+  done i (Some x) h d ch = kept i x ch (ap (ready t) (rest_done i h d) ∙ ch.starts) (ap (pick x.start) (rest_done i h d) ∙ ch.picked)
 
   -- it has one
-  module _ (i r a v : ℕ) (x : Turn) (O : Offer w p nx t m i r a v) where
-    new : ready t (head i ∷ rest (i + 1)) ≡ a → pick a (head i ∷ rest (i + 1)) ≡ Some (head i)
-        → Best w p nx t m i (record { task = i; start = a; due = r + v })
+  module _ (i : ℕ) (y : Turn) (h : i < m) (O : Offered w p nx t i y) where
+    new : ready t (head i ∷ rest (i + 1)) ≡ y.start → pick y.start (head i ∷ rest (i + 1)) ≡ Some (head i) → Chosen w p nx t m i y
     new es ep =
-        somebody
-        (record {
-          from = omega arith;
-          is_task = O.is_task;
-          live = O.comes.live;
-          few = O.comes.few;
-          soon = omega arith;
-          starts = ready_left i O.is_task O.comes.live ∙ es;
-          due_then = omega arith;
-          picked = pick_left i O.is_task O.comes.live a ∙ ep;
-        })
+        let its : head i ≡ head y.task = ap head (sym O.its_task) in
+        record {
+          from = omega (arith, O.its_task);
+          is_task = omega (arith, O.its_task);
+          live = rw O.its_task O.live;
+          few = rw O.its_task O.few;
+          soon = omega (arith, O.starts, O.early);
+          starts = ready_left i h O.live ∙ es;
+          due_then = rw O.its_task O.due_then;
+          picked = pick_left i h O.live y.start ∙ ep ∙ ap Some its;
+        }
 
-    -- it goes before the others
-    pub best_new : a ≤ x.start → (x.start ≤ a → r + v ≤ x.due) → Best w p nx t m (i + 1) x
-        → Best w p nx t m i (record { task = i; start = a; due = r + v })
-    best_new no_later q (nobody e g) =
-        new (ready_one t (head i) (rest (i + 1)) e ∙ omega arith) (pick_one a (head i) (rest (i + 1)) (omega arith) (pick_nobody a (rest (i + 1)) e))
-    best_new no_later q (somebody ch) =
-        new (ready_more t x.start (head i) (head x.task) (rest (i + 1)) ch.picked ∙ omega (arith, ch.starts))
-        (split x.start a
-        (λ g.
-        let s : x.start ≡ a = omega arith in
-        pick_come a (head i) (rest (i + 1)) (omega arith)
-        ∙ ap (λ (z : ℕ). sooner (head i) (pick z (rest (i + 1)))) (sym s)
-        ∙ ap (sooner (head i)) ch.picked
-        ∙ sooner_no (head x.task) (head i)
-        (ahead_first (head i) (head x.task) (record { deadline = omega (arith, q g, ch.due_then); task = λ k. omega (arith, ch.from) })))
-        (λ g. pick_one a (head i) (rest (i + 1)) (omega arith) (not_yet t a (rest (i + 1)) (omega arith) (omega (arith, ch.starts)))))
+    -- it is the first
+    first : rest (i + 1) ≡ [] → Chosen w p nx t m i y
+    first e =
+        new (ready_one t (head i) (rest (i + 1)) e ∙ sym O.starts) (pick_one y.start (head i) (rest (i + 1)) (omega (arith, O.starts)) (pick_nobody y.start (rest (i + 1)) e))
 
-    -- it does not
-    pub best_old : t < 2 ^ 63 → x.start ≤ a → (a ≤ x.start → x.due < r + v) → Best w p nx t m (i + 1) x → Best w p nx t m i x
-    best_old th no_earlier q (nobody e g) = absurd (omega arith)
-    best_old th no_earlier q (somebody ch) =
-        kept i x ch
-        (ready_left i O.is_task O.comes.live
-        ∙ ready_more t x.start (head i) (head x.task) (rest (i + 1)) ch.picked
-        ∙ omega (arith, ch.starts))
-        (pick_left i O.is_task O.comes.live x.start
-        ∙ split a x.start
-        (λ g.
-        pick_come x.start (head i) (rest (i + 1)) (omega arith)
-        ∙ ap (sooner (head i)) ch.picked
-        ∙ sooner_yes (head x.task) (head i) (goes_before (head x.task) (head i) (omega (arith, q g, ch.due_then)) (λ k. absurd (omega (arith, q g, ch.due_then)))))
-        (λ g. pick_not x.start (head i) (rest (i + 1)) (omega (arith, ready_after t (rest (i + 1)), ch.starts)) ∙ ch.picked))
+    module _ (x : Turn) (ch : Chosen w p nx t m (i + 1) x) where
+      -- it goes before the others
+      new_goes : y.start ≤ x.start → (x.start ≤ y.start → y.due ≤ x.due) → Chosen w p nx t m i y
+      new_goes no_later q =
+          new (ready_more t x.start (head i) (head x.task) (rest (i + 1)) ch.picked ∙ omega (arith, ch.starts, O.starts))
+          (split x.start y.start
+          (λ g.
+          let s : x.start ≡ y.start = omega arith in
+          pick_come y.start (head i) (rest (i + 1)) (omega (arith, O.starts))
+          ∙ ap (λ (z : ℕ). sooner (head i) (pick z (rest (i + 1)))) (sym s)
+          ∙ ap (sooner (head i)) ch.picked
+          ∙ sooner_no (head x.task) (head i)
+          (ahead_first (head i) (head x.task) (record { deadline = omega (arith, q g, ch.due_then, O.due_then); task = λ k. omega (arith, ch.from) })))
+          (λ g. pick_one y.start (head i) (rest (i + 1)) (omega (arith, O.starts)) (not_yet t y.start (rest (i + 1)) (omega (arith, O.starts)) (omega (arith, ch.starts)))))
+
+      -- it does not
+      old_goes : x.start ≤ y.start → (y.start ≤ x.start → x.due < y.due) → Chosen w p nx t m i x
+      old_goes no_earlier q =
+          kept i x ch
+          (ready_left i h O.live
+          ∙ ready_more t x.start (head i) (head x.task) (rest (i + 1)) ch.picked
+          ∙ omega (arith, ch.starts, O.starts))
+          (pick_left i h O.live x.start
+          ∙ split y.start x.start
+          (λ g.
+          pick_come x.start (head i) (rest (i + 1)) (omega (arith, O.starts))
+          ∙ ap (sooner (head i)) ch.picked
+          ∙ sooner_yes (head x.task) (head i)
+          (goes_before (head x.task) (head i) (omega (arith, q g, ch.due_then, O.due_then)) (λ k. absurd (omega (arith, q g, ch.due_then, O.due_then)))))
+          (λ g. pick_not x.start (head i) (rest (i + 1)) (omega (arith, ready_after t (rest (i + 1)), ch.starts, O.starts)) ∙ ch.picked))
+
+  -- the walk: what is found from task j on, and what task j - 1 offers
+  module _ (j : ℕ) (o : Option Turn) (h : 0 < j) (k : j ≤ m) (found : Best w p nx t m j o) where
+    found_before : Best w p nx t m (j - 1 + 1) o
+    found_before = let e : j ≡ j - 1 + 1 = omega arith in subst (λ (x : ℕ). Best w p nx t m x o) e found
+
+    -- nothing
+    pub best_done : (train_at w p (j - 1)).count ≤ get_or nx (j - 1) 0 → Best w p nx t m (j - 1) o
+    best_done d = done (j - 1) o (omega arith) d found_before
+
+    module _ (y : Turn) (O : Offered w p nx t (j - 1) y) where
+      -- the first job that is found
+      pub best_first : o ≡ None → Chosen w p nx t m (j - 1) y
+      best_first e = first (j - 1) y (omega arith) O (let b : Best w p nx t m (j - 1 + 1) None = subst (λ (x : Option Turn). Best w p nx t m (j - 1 + 1) x) e found_before in b)
+
+      -- another one: the one that goes first
+      pub best_sooner : (x z : Turn) → o ≡ Some x → z ≡ ord_min turn_cmp x y → Chosen w p nx t m (j - 1) z
+      best_sooner x z e ez =
+          let ch : Best w p nx t m (j - 1 + 1) (Some x) = subst (λ (v : Option Turn). Best w p nx t m (j - 1 + 1) v) e found_before in
+          let lower : y.task < x.task = omega (arith, O.its_task, ch.from) in
+          rw ez (go x ch lower (is_lt (turn_cmp y x)) refl)
+        where
+          go : (x : Turn) → Chosen w p nx t m (j - 1 + 1) x → y.task < x.task → (b : Bool) → is_lt (turn_cmp y x) ≡ b → Chosen w p nx t m (j - 1) (cond b y x)
+          go x ch lower true e = let q = less y x lower e in new_goes (j - 1) y (omega arith) O x ch q.0 q.1
+          go x ch lower false e = let q = not_less y x lower e in old_goes (j - 1) y (omega arith) O x ch q.0 q.1

@@ -1,12 +1,11 @@
 -- The number of the next job of each task, and what it stands for: the jobs that are not started, and the one that starts next.
-use Rattle.std.specs.Prelude.{◌≡◌, ℕ, zero, suc, ◌+◌, ◌-◌, ◌*◌, ◌^◌, max, ◌≤◌, ◌<◌, List, [], ◌++◌, get_or, replicate}
+use Rattle.std.specs.Prelude.{◌≡◌, ℕ, zero, suc, ◌+◌, ◌-◌, ◌*◌, ◌^◌, max, ◌≤◌, ◌<◌, List, [], ◌++◌, get_or, replicate, Option, Some, MatchOption}
 use Rattle.rules.specs.Numbers.{task_most}
 use Rattle.rules.specs.Dispatch.{Job, pick, ready}
 use Rattle.rules.specs.Jobs.{Train, train, plan_train}
 use Rattle.rules.specs.Table.{task_in}
 use Rattle.rules.specs.declared.Plan.{Plan}
 use Rattle.turn.specs.declared.Turn.{Turn}
-use Rattle.std.specs.Prelude.{Some}
 
 -- the train of task i of a table
 abbrev pub train_at : List ℕ → Plan → ℕ → Train
@@ -40,6 +39,15 @@ rest_from w p nx (suc n) k = jobs_at w p k (get_or nx k 0) ++ rest_from w p nx n
 abbrev pub none_started : List ℕ
 none_started = replicate task_most 0
 
+-- the next job of task i, as it could start with the tile free from tick t on
+pub record Offered (w : List ℕ) (p : Plan) (nx : List ℕ) (t i : ℕ) (x : Turn) : Type 0 where
+  pub its_task : x.task ≡ i
+  pub live : get_or nx i 0 < (train_at w p i).count
+  pub few : get_or nx i 0 + 1 < 2 ^ 32
+  pub early : release_at w p i (get_or nx i 0) < 2 ^ 33
+  pub starts : x.start ≡ max t (release_at w p i (get_or nx i 0))
+  pub due_then : x.due ≡ (job_at w p i (get_or nx i 0)).deadline
+
 -- of the tasks from i on the next job to start, with the tile free from tick t on
 pub record Chosen (w : List ℕ) (p : Plan) (nx : List ℕ) (t m i : ℕ) (x : Turn) : Type 0 where
   pub from : i ≤ x.task
@@ -51,7 +59,6 @@ pub record Chosen (w : List ℕ) (p : Plan) (nx : List ℕ) (t m i : ℕ) (x : T
   pub due_then : x.due ≡ (job_at w p x.task (get_or nx x.task 0)).deadline
   pub picked : pick x.start (rest_from w p nx (m - i) i) ≡ Some (job_at w p x.task (get_or nx x.task 0))
 
--- what the walk over the tasks has found from i on: no job, and a start that none has, or the next job
-pub data Best (w : List ℕ) (p : Plan) (nx : List ℕ) (t m i : ℕ) (x : Turn) : Type 0 where
-  nobody : rest_from w p nx (m - i) i ≡ [] → x.start ≡ 18446744073709551615 → Best w p nx t m i x
-  somebody : Chosen w p nx t m i x → Best w p nx t m i x
+-- what the walk over the tasks has found from i on: no job, where none is left, or the next one
+abbrev pub Best : List ℕ → Plan → List ℕ → ℕ → ℕ → ℕ → Option Turn → Type 0
+Best w p nx t m i found = MatchOption found (rest_from w p nx (m - i) i ≡ []) (λ x. Chosen w p nx t m i x)

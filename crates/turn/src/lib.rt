@@ -1,78 +1,62 @@
 // Which job starts next. Of each task the number of its next job is kept; when that job is released is worked out while walking.
 #![tactic(auto)]
 
-ghost use Rattle.std.specs.Prelude.{◌+◌, ◌^◌, ◌<◌, length};
-ghost use Rattle.rules.specs.Table.{Valid};
-ghost use Rattle.turn.specs.Counters.{rest_from, Chosen, Best};
+ghost use Rattle.std.specs.Prelude.{◌≡◌, ◌^◌, ◌≤◌, ◌<◌, get_or, MatchOption};
 
-use arith::{greater, wide};
 use rules::Plan;
-use table::{TASK_MOST, task_at};
-use trains::{Release, release_of};
+use table::{TASK_MOST, Tasks};
+use trains::release_of;
 
-// The next job to start: its task, its start and its deadline.
-#[derive(Clone, Copy)]
+// A job that could start next: its start, its deadline, its task. The one that can start first goes first, then the one with the lesser
+// deadline, then that of the lower task.
+#[derive(Clone, Copy, PartialEq, Eq, PartialOrd, Ord)]
 pub struct Turn {
-    pub task: usize,
     pub start: u64,
     pub due: u64,
+    pub task: usize,
 }
 
-// The next job of task i against the best of the tasks after it. A job can start at t or at its release, whichever is later;
-// the one that can start first is best, then the one with the lesser deadline, then the lower task.
-fn consider(
-    table: &[u32],
-    plan: Plan,
-    next: &[u32; TASK_MOST],
-    m: usize,
-    t: u64,
-    i: usize,
-    best: Turn,
-) -> Turn
-    requires valid { Valid table.now m }
-    requires i_lt_m { i < m }
-    requires t_bound { t < 2 ^ 63 }
-    requires best { Best table.now plan next.now t m (i + 1) best }
-    ensures { Best table.now plan next.now t m i result }
-{
-    let task = task_at(table, i);
-    let release = release_of(plan, i, task, next[i]);
-    let Release::At(r) = release else {
-        return best;
-    };
-    let due = r + wide(task.D);
-    let start = greater(t, r);
-    if best.start < start {
-        return best;
+// The jobs of a plan that are not started: of each task the number of its next job is kept.
+#[derive(Clone, Copy)]
+pub struct Waiting<'a> {
+    pub tasks: Tasks<'a>,
+    pub plan: Plan,
+    pub next: [u32; TASK_MOST],
+}
+
+impl<'a> Waiting<'a> {
+    ghost use Rattle.rules.specs.Table.{task_count};
+    ghost use Rattle.turn.specs.Counters.{train_at, Offered, Best};
+
+    // The next job of task i, if it has one left. It can start at t or at its release, whichever is later.
+    fn offer(&self, t: u64, i: usize) -> Option<Turn>
+        requires { i < task_count self.now.tasks.words.now }
+        ensures { MatchOption result ((train_at self.now.tasks.words.now self.now.plan i).count ≤ get_or self.now.next i 0)
+            (λ turn. Offered self.now.tasks.words.now self.now.plan self.now.next t i turn) }
+    {
+        let task = self.tasks.task(i);
+        let r = release_of(self.plan, i, task, self.next[i])?;
+        Some(Turn {
+            start: t.max(r),
+            due: r + u64::from(task.D),
+            task: i,
+        })
     }
-    if best.start == start {
-        if best.due < due {
-            return best;
+
+    // The next job to start, with the tile free from tick t on, if one is left.
+    pub fn choose(&self, t: u64) -> Option<Turn>
+        ensures { Best self.now.tasks.words.now self.now.plan self.now.next t (task_count self.now.tasks.words.now) 0 result }
+    {
+        let mut best: Option<Turn> = None;
+        for i in (0..self.tasks.count()).rev() {
+            let Some(turn) = self.offer(t, i) else {
+                continue;
+            };
+            best = match best {
+                Some(other) => Some(other.min(turn)),
+                None => Some(turn),
+            };
         }
+        best
     }
-    Turn {
-        task: i,
-        start,
-        due,
-    }
-}
-
-// The next job to start, with the tile free from tick t on.
-pub fn choose(table: &[u32], plan: Plan, next: &[u32; TASK_MOST], m: usize, t: u64) -> Turn
-    requires valid { Valid table.now m }
-    requires t_bound { t < 2 ^ 63 }
-    requires nonzero { 0 < length (rest_from table.now plan next.now m 0) }
-    ensures { Chosen table.now plan next.now t m 0 result }
-{
-    let mut best = Turn {
-        task: 0,
-        start: 0xffff_ffff_ffff_ffff,
-        due: 0,
-    };
-    let mut i = m;
-    while 0 < i {
-        i -= 1;
-        best = consider(table, plan, next, m, t, i, best);
-    }
-    best
 }

@@ -6,5 +6,5 @@ use Rattle.rules.proofs.Calls.{dispatch_short}
 use Rattle.dispatch.proofs.dispatch.Goals as goal
 
 -- the buffer is too short
-pub returns-then-room-n : goal.returns-then-room-n
-returns-then-room-n c = dispatch_short _ _ (omega (arith, planned_rows c.args.plan _ _ c.requires))
+pub returns-then-rows-n : goal.returns-then-rows-n
+returns-then-rows-n c = dispatch_short _ _ (omega (arith, planned_rows c.args.plan _ _ c.args.tasks.valid))

@@ -9,7 +9,7 @@ ghost use Rattle.rules.specs.Calls.{ReadsSheet, WritesSheet};
 ghost use Rattle.print.specs.Place.{Puts};
 
 use kernel::Kernels;
-use rules::{Refusal};
+use rules::Refusal;
 use table::TABLE_MOST;
 
 // The first line of a sheet that is written.
@@ -97,10 +97,7 @@ fn put_sheet(table: &[u32], out: &mut [u8])
 pub fn write_sheet(table: &[u32], out: &mut [u8]) -> Result<u32, Refusal>
     ensures { WritesSheet table.now out.old result out.new }
 {
-    let checked = table::check_table(table);
-    if let Err(r) = checked {
-        return Err(r);
-    }
+    table::check_table(table)?;
     let total = sheet_length(table);
     if out.len() < total {
         return Err(Refusal::TooShort);

@@ -1,6 +1,6 @@
 -- `read_sheet`: each return is one of the ways in which a sheet is read: no header (13), a record that is not as due (14), no record (15), a table
 -- too short for the words (6), or they are copied.
-use Rattle.std.proofs.Common.{◌≡◌, ℕ, ◌*◌, ◌/◌, ◌++◌, length, take, drop, refl, sym, ap, ◌∙◌, arith}
+use Rattle.std.proofs.Common.{◌≡◌, Ok, ℕ, ◌*◌, ◌/◌, ◌++◌, length, take, drop, refl, sym, ap, ◌∙◌, arith}
 use Rattle.rules.specs.Sheet.{tasks}
 use Rattle.rules.proofs.SheetReading.{sheet_headless, sheet_stops, sheet_empty, sheet_short, sheet_set}
 use Rattle.sheet.proofs.Headed.{headless, within, sheet_says, words_long}
@@ -41,6 +41,6 @@ returns-else-table-m c =
     let counted : c.in-Whole.n ≡ length words / 4 = omega arith in
     let outcome = sheet_set c.args.text.now table words whole (omega arith) (omega arith) in
     record {
-      says = ap Set counted ∙ outcome.says;
+      says = ap Ok counted ∙ outcome.says;
       leaves = c.copy_words.ensures ∙ ap (λ (k : ℕ). words ++ drop k table) (sym long) ∙ outcome.leaves;
     }

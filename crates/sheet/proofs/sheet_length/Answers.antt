@@ -2,7 +2,6 @@
 use Rattle.std.proofs.Common.{ap, length, arith}
 use Rattle.rules.proofs.SheetWriting.{sheet_length, records_none, records_length}
 use Rattle.sheet.proofs.sheet_length.Goals as goal
-use Rattle.std.specs.Prelude.{None}
 
 pub loop-k-init : goal.loop-k-init
 loop-k-init c = record { within = omega arith; small = omega arith; counted = omega (arith, sheet_length c.args.table.now) }
@@ -15,5 +14,5 @@ loop-k-preserved c =
 
 pub returns : goal.returns
 returns c =
-    let None = ap length (records_none c.args.table.now c.loop-k.k (omega arith)) in
+    let none_left = ap length (records_none c.args.table.now c.loop-k.k (omega arith)) in
     (omega arith, omega arith)

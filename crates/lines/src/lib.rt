@@ -17,10 +17,7 @@ pub fn skip_key<'a>(s: &'a [u8], key: &[u8]) -> Option<&'a [u8]>
 fn digit(b: u8) -> Option<u32>
     ensures { MatchOption result (NoDigit b) (λ v. IsValueOf b v) }
 {
-    if !b.is_ascii_digit() {
-        return None;
-    }
-    Some(u32::from(b - b'0'))
+    char::from(b).to_digit(10)
 }
 
 // The number with at most four digits more, after the first; and the bytes after it.

@@ -7,7 +7,7 @@ ghost use Rattle.rules.specs.Text.{key_of, read_line, read_lines, read_set};
 ghost use Rattle.lines.specs.Line.{Finds};
 ghost use Rattle.scan.specs.Scanned.{Scans, IsWhole, Stops};
 
-use rules::{Refusal, TASKS_KEY, TASK_KEYS};
+use rules::{Refusal, TASK_KEYS, TASKS_KEY};
 use table::TASK_MOST;
 
 // One of a task's four lines: its number, and what is left.

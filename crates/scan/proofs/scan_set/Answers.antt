@@ -40,8 +40,8 @@ returns-then-not-contains c =
       line = 1;
       says =
           elim other [
-            inl few ↦ no_task _ n _ c.in-Some.ensures few
-          | inr many ↦ too_many _ n _ c.in-Some.ensures (omega arith) many
+            | inl few ↦ no_task _ n _ c.in-Some.ensures few
+            | inr many ↦ too_many _ n _ c.in-Some.ensures (omega arith) many
           ];
       refuses = refl;
     }

@@ -2,9 +2,9 @@
 use Rattle.std.proofs.Common.{◌≡◌, ℕ, ◌+◌, ◌-◌, ◌≤◌, List, ◌++◌, Option, arith, sym, ap, subst, ◌∙◌}
 use Rattle.std.specs.Io.KnownBytes.{Appends}
 use Rattle.rules.specs.Generator.{state_after_sets, generated}
-use Rattle.rules.proofs.DrawnTexts.{in_pieces}
+use Rattle.rules.proofs.DrawnTexts.{sets_none, sets_after, texts_none, in_pieces}
 use Rattle.stdio.specs.Input.{TookBeginning}
-use Rattle.stdio.proofs.Known.{appends_both, beginning_after, beginning_all}
+use Rattle.stdio.proofs.Known.{appends_none, appends_both, beginning_after, beginning_all}
 
 -- the texts of m sets, and of n more from the state that they left
 texts_after : (m n seed : ℕ) → generated (m + n) 0 seed ≡ generated m 0 seed ++ generated n m (state_after_sets m seed)
@@ -12,23 +12,45 @@ texts_after m n seed =
     let from : 0 + m ≡ m = omega arith in
     in_pieces m n 0 seed ∙ ap (λ (k : ℕ). generated m 0 seed ++ generated n k (state_after_sets m seed)) from
 
-module _ (a b c : Option (List ℕ)) (m n seed state : ℕ) (left : state ≡ state_after_sets m seed) (before : Appends a b (generated m 0 seed)) where
-  -- all of it is printed
-  pub piece_done : Appends b c (generated n m state) → Appends a c (generated (m + n) 0 seed)
-  piece_done more =
-      subst (Appends a c) (sym (texts_after m n seed))
-      (appends_both a b c _ _ before (subst (λ (s : ℕ). Appends b c (generated n m s)) left more))
+-- the sets below this number are printed, of so many, and the state is the one after them
+pub record Printed (seed count : ℕ) (a b : Option (List ℕ)) (number state : ℕ) : Type 0 where
+  pub within : number ≤ count
+  pub left : state ≡ state_after_sets number seed
+  pub bytes : Appends a b (generated number 0 seed)
 
-  -- a beginning of it is printed
-  pub piece_begun : (count : ℕ) → m + n ≤ count → TookBeginning b c (generated n m state) → TookBeginning a c (generated count 0 seed)
-  piece_begun count within begun =
-      let k = count - (m + n) in
-      let whole : count ≡ m + (n + k) = omega arith in
-      let after = state_after_sets m seed in
-      let parts : generated count 0 seed ≡ generated m 0 seed ++ (generated n m after ++ generated k (m + n) (state_after_sets n after)) =
-      ap (λ (i : ℕ). generated i 0 seed) whole ∙ texts_after m (n + k) seed ∙ ap (λ (l : List ℕ). generated m 0 seed ++ l) (in_pieces n k m after) in
-      beginning_after a b c _ _ _ _ before (subst (λ (s : ℕ). TookBeginning b c (generated n m s)) left begun) parts
+module _ (seed count : ℕ) (a : Option (List ℕ)) where
+  -- none is printed
+  pub printed_none : Printed seed count a a 0 seed
+  printed_none = record { within = omega arith; left = sym (sets_none seed); bytes = subst (Appends a a) (sym (texts_none 0 seed)) (appends_none a) }
 
--- all of the sets are printed
-pub pieces_all : (a b : Option (List ℕ)) (m count seed : ℕ) → m ≡ count → Appends a b (generated m 0 seed) → TookBeginning a b (generated count 0 seed)
-pieces_all a b m count seed all printed = beginning_all a b _ (subst (λ (n : ℕ). Appends a b (generated n 0 seed)) all printed)
+  module _ {b : Option (List ℕ)} {number state : ℕ} (P : Printed seed count a b number state) where
+    -- all of them are printed
+    pub printed_all : count ≤ number → TookBeginning a b (generated count 0 seed)
+    printed_all h =
+        let all : number ≡ count = omega (arith, P.within) in
+        beginning_all a b _ (subst (λ (k : ℕ). Appends a b (generated k 0 seed)) all P.bytes)
+
+    module _ (c : Option (List ℕ)) (many : ℕ) where
+      -- a piece more is printed
+      pub printed_more : {next after : ℕ} → next ≡ number + many → next ≤ count → after ≡ state_after_sets many state → Appends b c (generated many number state)
+          → Printed seed count a c next after
+      printed_more e within moved more =
+          let piece : Appends b c (generated many number (state_after_sets number seed)) = subst (λ (s : ℕ). Appends b c (generated many number s)) P.left more in
+          record {
+            within = within;
+            left = moved ∙ ap (state_after_sets many) P.left ∙ sets_after number many seed ∙ ap (λ (k : ℕ). state_after_sets k seed) (sym e);
+            bytes = rw (e, texts_after number many seed) (appends_both a b c _ _ P.bytes piece);
+          }
+
+      -- a beginning of it is printed
+      pub printed_begun : number + many ≤ count → TookBeginning b c (generated many number state) → TookBeginning a c (generated count 0 seed)
+      printed_begun within begun =
+          let k = count - (number + many) in
+          let whole : count ≡ number + (many + k) = omega arith in
+          let after = state_after_sets number seed in
+          let parts : generated count 0 seed ≡ generated number 0 seed ++ (generated many number after ++ generated k (number + many) (state_after_sets many after)) =
+          ap (λ (i : ℕ). generated i 0 seed) whole
+          ∙ texts_after number (many + k) seed
+          ∙ ap (λ (l : List ℕ). generated number 0 seed ++ l) (in_pieces many k number after)
+          in
+          beginning_after a b c _ _ _ _ P.bytes (subst (λ (s : ℕ). TookBeginning b c (generated many number s)) P.left begun) parts

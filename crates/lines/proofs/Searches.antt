@@ -1,5 +1,5 @@
 -- What the calls on one line lean on, beside the laws of the definitions that read; and that each promise leaves one outcome.
-use Rattle.std.proofs.Common.{◌≡◌, ◌≢◌, ℕ, ◌+◌, ◌-◌, ◌*◌, ◌^◌, ◌<◌, List, [], ◌∷◌, ◌++◌, Option, Some, None, MatchOption, add-one, refl, sym, ap, ◌∙◌, arith}
+use Rattle.std.proofs.Common.{◌≡◌, ◌≢◌, ℕ, ◌+◌, ◌-◌, ◌*◌, ◌^◌, ◌<◌, List, [], ◌∷◌, ◌++◌, Option, Some, None, MatchOption, add-one, refl, arith}
 use Rattle.std.specs.Borrow.{Bor}
 use Rattle.rules.specs.Text.{got, bad, after_key, more_digits, line_end}
 use Rattle.rules.proofs.Booleans.{impossible}
@@ -9,7 +9,7 @@ use Rattle.lines.specs.Line.{Skips, NoDigit, IsValueOf, SkipsOne, FindsOne}
 
 -- a key, by the lists that begin with it
 module _ (key s : List ℕ) where
-  pub key_not_there : ((rest : List ℕ) → s ≢ key ++ rest) → after_key key s ≡ None
+  key_not_there : ((rest : List ℕ) → s ≢ key ++ rest) → after_key key s ≡ None
   key_not_there n = by_search (after_key key s) refl
     where
       by_search : (o : Option (List ℕ)) → after_key key s ≡ o → after_key key s ≡ None
@@ -21,16 +21,13 @@ module _ (key s : List ℕ) where
   skips (Some x) e = rw e (key_there key x.now)
 
 -- byte 10 after a number, as a key
-module _ (v : ℕ) (t : List ℕ) where
-  pub no_end : after_key (10 ∷ []) t ≡ None → line_end (got v t) ≡ bad
-  no_end e = by_bytes t refl e
-    where
-      by_bytes : (u : List ℕ) → t ≡ u → after_key (10 ∷ []) t ≡ None → line_end (got v t) ≡ bad
-      by_bytes [] f e = rw f (end_none v [] refl)
-      by_bytes (b ∷ u) f e = rw f (end_wrong v (b ∷ u) (omega arith) (λ ten. impossible (let z : None ≡ Some u = sym e ∙ ap (after_key (10 ∷ [])) f ∙ ap (λ (x : ℕ). after_key (10 ∷ []) (x ∷ u)) ten ∙ key_there (10 ∷ []) u in cc)))
+pub no_end : (v : ℕ) (t : List ℕ) → after_key (10 ∷ []) t ≡ None → line_end (got v t) ≡ bad
+no_end v [] e = end_none v [] refl
+no_end v (b ∷ u) e =
+    end_wrong v (b ∷ u) (omega arith) (λ (ten : b ≡ 10). let there : after_key (10 ∷ []) (b ∷ u) ≡ Some u = rw ten (key_there (10 ∷ []) u) in impossible cc)
 
-  pub line_ends : (rest : List ℕ) → after_key (10 ∷ []) t ≡ Some rest → line_end (got v t) ≡ got v rest
-  line_ends rest e = let f : t ≡ 10 ∷ rest = key_back (10 ∷ []) t rest e in rw f (end_right v (10 ∷ rest) (omega arith) refl)
+pub line_ends : (v : ℕ) (t rest : List ℕ) → after_key (10 ∷ []) t ≡ Some rest → line_end (got v t) ≡ got v rest
+line_ends v t rest e = rw (key_back (10 ∷ []) t rest e) (end_right v (10 ∷ rest) (omega arith) refl)
 
 -- the digits after those that make v, by the next byte
 module _ (n v : ℕ) {s : List ℕ} {b : ℕ} {rest : List ℕ} (e : s ≡ b ∷ rest) where

@@ -7,7 +7,7 @@ use Rattle.std.proofs.Math.Seq.{length-take-le, take_at}
 use Rattle.std.proofs.lemmas.Bool.Decides.{nat_tests}
 use Rattle.std.proofs.lemmas.Result.{err_from_is_err_and}
 use Rattle.rules.specs.Numbers.{task_most, table_most}
-use Rattle.rules.specs.Text.{Lines, read_lines, took}
+use Rattle.rules.specs.Text.{got, tasks_key, read_line, read_lines, read_set, took}
 use Rattle.rules.proofs.ReadSets.{no_first, no_task, too_many, some_tasks}
 use Rattle.scan.proofs.scan_set.Goals as goal
 
@@ -23,12 +23,12 @@ module _ (r : RangeInclusive ℕ) (n a b : ℕ) (s : range_inclusive_start r ≡
 pub returns-in_default : goal.returns-in_default
 returns-in_default c = record { line = 1; says = no_first _ c.in_default.ensures; refuses = refl }
 
--- a set of n tasks, by the words that are lent for them
-lent : {due : Lines} {n : ℕ} (after words : List ℕ) → due ≡ read_lines (4 * n) 0 after → n ≤ task_most → table_most ≤ length words
-    → due ≡ read_lines (length (take (4 * n) words)) 0 after
-lent {due} {n} after words e f g =
+-- a set of n tasks is what its lines are, one for each of the words that are lent for them
+lines_due : (text words after : List ℕ) (n : ℕ) → read_line tasks_key text ≡ got n after → (1 ≤ n) × (n ≤ task_most) → table_most ≤ length words
+    → read_set text ≡ read_lines (length (take (4 * n) words)) 0 after
+lines_due text words after n e some room =
     let long : length (take (4 * n) words) ≡ 4 * n = length-take-le (4 * n) words (omega arith) in
-    e ∙ ap (λ (m : ℕ). read_lines m 0 after) (sym long)
+    some_tasks text n after e some.0 some.1 ∙ ap (λ (m : ℕ). read_lines m 0 after) (sym long)
 
 -- no task, or too many
 pub returns-then-not-contains : goal.returns-then-not-contains
@@ -56,7 +56,7 @@ returns-in_err-rest c =
     let stops = c.in_err-rest.ensures in
     rw (refused.1, refused.2) (record {
       line = stops.line;
-      says = lent _ _ (some_tasks _ n _ c.in-Some.ensures some.0 some.1) some.1 c.requires ∙ stops.says;
+      says = lines_due _ _ _ n c.in-Some.ensures some c.requires ∙ stops.says;
       refuses = stops.refuses;
     })
 
@@ -70,7 +70,7 @@ returns c =
     let as_long : length words ≡ 4 * n = c.task_lines.auto.words ∙ length-take-le (4 * n) c.args.words.now (omega arith) in
     record {
       says =
-          lent _ _ (some_tasks _ n _ c.in-Some.ensures some.0 some.1) some.1 c.requires
+          lines_due _ _ _ n c.in-Some.ensures some c.requires
           ∙ c.in_ok-rest.ensures
           ∙ ap (λ (l : List ℕ). took l c.in_ok-rest.rest.now) (sym (take_at words (drop (4 * n) c.args.words.now) (4 * n) as_long));
       few = some.1;

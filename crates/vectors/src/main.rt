@@ -8,7 +8,7 @@ ghost use Rattle.rules.specs.Numbers.{input_most};
 use output::OUTPUT_MOST;
 use rules::INPUT_MOST;
 use std::io::{Read, Write};
-use stdio::{Input, read_input, write_output};
+use stdio::{InputError, read_input, write_output};
 use texts::TEXT_MOST;
 
 // The seed, and how many sets are drawn.
@@ -20,7 +20,7 @@ const DRAWN: u32 = 9;
 fn print_output<W: Write>(stdout: &mut W, text: &[u8]) {
     let mut out = [0u8; OUTPUT_MOST];
     let all = output::output(text, &mut out);
-    write_output(stdout, &out[..all]);
+    let _ = write_output(stdout, &out[..all]);
 }
 
 // The sets drawn are printed, then what they give.
@@ -28,7 +28,7 @@ fn print_drawn<W: Write>(stdout: &mut W) {
     let mut state = SEED;
     let mut text = [0u8; 9 * TEXT_MOST];
     let all = texts::put_sets(&mut state, 0, DRAWN, &mut text);
-    write_output(stdout, &text[..all]);
+    let _ = write_output(stdout, &text[..all]);
     print_output(stdout, &text[..all]);
 }
 
@@ -38,9 +38,8 @@ fn read_text<R: Read>(stdin: &mut R, buf: &mut [u8]) -> usize
     ensures { result ≤ input_most }
 {
     match read_input(stdin, buf) {
-        Input::Whole(n) => n,
-        Input::TooLong => INPUT_MOST,
-        Input::Failed(n) => n,
+        Ok(n) | Err(InputError::Failed(n)) => n,
+        Err(InputError::TooLong) => INPUT_MOST,
     }
 }
 

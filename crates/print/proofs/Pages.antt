@@ -3,7 +3,8 @@ use mathlib.Core.Path.{◌≡◌, sym, ap, ◌∙◌}
 use Prim.Native.Nat.{ℕ, ◌+◌, ◌≤◌}
 use native.Mathlib.Omega.{arith}
 use mathlib.Core.List.{List, [], ◌++◌}
-use lib.ListN.{length, drop, length-append}
+use lib.ListN.{length, take, drop, length-append}
+use lib.Seq.{take_at}
 use Rattle.print.specs.Place.{put}
 use Rattle.print.specs.Pages.{Fits, Adds, AddsOne}
 use Rattle.print.specs.declared.Page.{Page}
@@ -25,6 +26,13 @@ adds_both {old} a b first second =
       same = second.same ∙ first.same;
       puts = then old.out.now old.at a first.fits b first.puts second.puts;
     }
+
+-- what was added at the start of a page stands there
+pub at_start : {old new : Page} (vs : List ℕ) → old.at ≡ 0 → Adds old vs new → take new.at new.out.now ≡ vs
+at_start {old} {new} vs start p =
+    let n : length vs ≡ new.at = omega (arith, p.puts.says) in
+    let s : put old.out.now old.at vs ≡ put old.out.now 0 vs = ap (λ (k : ℕ). put old.out.now k vs) start in
+    ap (take new.at) (p.puts.leaves ∙ s ∙ put_start old.out.now vs) ∙ take_at vs (drop (length vs) old.out.now) new.at n
 
 -- after the first part there is room for the second
 pub fits_second : {old mid : Page} (a b : List ℕ) → Fits old (a ++ b) → Adds old a mid → Fits mid b

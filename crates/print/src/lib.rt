@@ -49,9 +49,18 @@ impl Part for u32 {
     }
 }
 
-impl Page<'_> {
+impl<'a> Page<'a> {
     ghost use Rattle.std.specs.Prelude.{◌++◌};
     ghost use Rattle.print.specs.Pages.{Fits, Adds};
+
+    // A buffer, from its start.
+    pub fn new(out: &'a mut [u8]) -> Page<'a>
+        ensures start { result.at ≡ 0 }
+        ensures same { result.out.ghost_name ≡ out.entry.ghost_name }
+        ensures holds { result.out.now ≡ out.old }
+    {
+        Page { out, at: 0 }
+    }
 
     // Bytes are put at the place.
     pub fn put_bytes(&mut self, bytes: &[u8])

@@ -1,15 +1,18 @@
 -- The lines of the answer that was found stand on a page that has room for any set's, and are then put at the start of out, if that has room too.
-use Rattle.std.proofs.Common.{arith}
+use Rattle.std.proofs.Common.{◌≡◌, ◌∙◌, arith, rules, ap, length, take}
 use Rattle.rules.proofs.Lengths.{said_most}
-use Rattle.print.proofs.Parts.{by_page}
+use Rattle.print.proofs.Pages.{at_start}
 use Rattle.report.proofs.Reported.{short, told}
 use Rattle.report.proofs.report.Goals as goal
 
-pub put_set-length-requires : goal.put_set-length-requires
-put_set-length-requires c = omega (arith, said_most c.args.number c.judge_first-first.result.answer)
+pub put_set-requires : goal.put_set-requires
+put_set-requires c = omega (arith, said_most c.args.number c.judge_first-answer.result.answer, ap length c.new-page.ensures.holds)
 
 pub returns-then-out-length : goal.returns-then-out-length
-returns-then-out-length c = short c.args.number _ _ _ c.judge_first-first.ensures (omega arith)
+returns-then-out-length c = short c.args.number _ _ _ c.judge_first-answer.ensures (omega (arith, c.put_set.ensures.puts.says))
 
 pub returns : goal.returns
-returns c = told c.args.number _ _ _ c.judge_first-first.ensures _ _ (omega arith) (omega arith) (by_page _ c.put_set-length.ensures c.put_bytes.ensures)
+returns c =
+    let copied : c.copy_from_slice.new.self ≡ take c.put_set.new.page.at c.put_set.new.page.out.now = search rules in
+    let added = c.put_set.ensures in
+    told c.args.number _ _ _ c.judge_first-answer.ensures _ _ (copied ∙ at_start _ c.new-page.ensures.start added) (omega (arith, added.puts.says)) (omega arith)

@@ -1,6 +1,7 @@
--- Bytes that are known, of a reader and a writer: one more call's bytes stand behind those of the calls before.
-use Rattle.std.proofs.Common.{◌≡◌, ℕ, ◌+◌, ◌-◌, ◌≤◌, List, [], ◌++◌, Option, None, Some, Result, Ok, Err, length, take, drop, sym, ap, subst, min, ◌∙◌, append_assoc, append-nil, arith, length-take-le}
-use Rattle.std.specs.Io.KnownBytes.{Appends, Consumes}
+-- Bytes that are known: what one more read or write adds to those of the calls before, and which beginning was written.
+use Rattle.std.proofs.Common.{◌≡◌, ℕ, ◌+◌, ◌-◌, ◌≤◌, List, ◌++◌, Option, Result, Ok, Err, length, take, drop, sym, ap, subst, min, ◌∙◌, arith, length-take-le}
+use Rattle.std.specs.Io.KnownBytes.{Appends}
+use Rattle.std.proofs.KnownBytes.{Appends-trans}
 use Rattle.stdio.specs.Input.{TookBeginning, Wrote}
 use Rattle.stdio.specs.declared.OutputError.{OutputError}
 use Rattle.stdio.specs.declared.OutputError.TheVariants.{Cut, Unread}
@@ -8,20 +9,6 @@ use borrow.Rule.Slice.PartMut.{put_mid, post_of}
 use Rattle.std.proofs.Math.Seq.{take-append-add, take-length}
 use Rattle.std.proofs.lemmas.List.{take_min, take_rest}
 use lib.Seq.{take-add, take-append-le}
-
--- a reader that gave one part and then another gave both
-pub consumes_both : (a b c : Option (List ℕ)) (bs cs : List ℕ) → Consumes a b bs → Consumes b c cs → Consumes a c (bs ++ cs)
-consumes_both None b c bs cs p q = tt
-consumes_both (Some x) None c bs cs p q = absurd p
-consumes_both (Some x) (Some y) None bs cs p q = absurd q
-consumes_both (Some x) (Some y) (Some z) bs cs p q = p ∙ ap (λ l. bs ++ l) q ∙ sym (append_assoc bs cs z)
-
--- a writer that took one part and then another took both
-pub appends_both : (a b c : Option (List ℕ)) (bs cs : List ℕ) → Appends a b bs → Appends b c cs → Appends a c (bs ++ cs)
-appends_both None b c bs cs p q = tt
-appends_both (Some x) None c bs cs p q = absurd p
-appends_both (Some x) (Some y) None bs cs p q = absurd q
-appends_both (Some x) (Some y) (Some z) bs cs p q = q ∙ ap (λ l. l ++ cs) p ∙ append_assoc x bs cs
 
 -- what was read before stays in front of what this read put at `at`
 pub read_more : (at k n : ℕ) (buf part : List ℕ) → at ≤ length buf → n ≤ length part → take at buf ++ take n part ≡ take (at + n) (put_mid at k buf part)
@@ -36,7 +23,7 @@ pub written_more : (a b c : Option (List ℕ)) (bytes : List ℕ) (at n : ℕ) �
     → Appends b c (take n (take (length bytes - at) (drop at bytes))) → Appends a c (take (at + n) bytes)
 written_more a b c bytes at n before more =
     let rest : Appends b c (take n (drop at bytes)) = subst (λ (l : List ℕ). Appends b c (take n l)) (take_rest bytes at) more in
-    subst (Appends a c) (sym (take-add at n bytes)) (appends_both a b c _ _ before rest)
+    subst (Appends a c) (sym (take-add at n bytes)) (Appends-trans a b c _ _ before rest)
 
 -- a writer that took all of one part and a beginning of the next took a beginning of both and of what follows them
 pub beginning_after : (a b c : Option (List ℕ)) (done part rest all : List ℕ) → Appends a b done → TookBeginning b c part → all ≡ done ++ (part ++ rest) → TookBeginning a c all
@@ -45,12 +32,7 @@ beginning_after a b c done part rest all before (n, more) e =
     let within : m ≤ length part = omega arith in
     let front : take (length done + m) all ≡ done ++ take n part =
     ap (take (length done + m)) e ∙ take-append-add done (part ++ rest) m ∙ ap (λ l. done ++ l) (take-append-le m part rest within ∙ take_min n part) in
-    (length done + m, subst (Appends a c) (sym front) (appends_both a b c _ _ before more))
-
--- a writer that took nothing
-pub appends_none : (a : Option (List ℕ)) → Appends a a []
-appends_none None = tt
-appends_none (Some x) = sym (append-nil x)
+    (length done + m, subst (Appends a c) (sym front) (Appends-trans a b c _ _ before more))
 
 -- all of the bytes are a beginning of them
 pub beginning_all : (a b : Option (List ℕ)) (all : List ℕ) → Appends a b all → TookBeginning a b all

@@ -112,11 +112,6 @@ pub fn tell<E: Write>(error: &mut E, words: &[u8]) {
     let _ = error.write_all(words);
 }
 
-// A number on standard error.
-pub fn tell_count<E: Write>(error: &mut E, n: usize) {
-    let _ = write!(error, "{n}");
-}
-
 // A read that failed is told on standard error, with what nothing was.
 fn tell_read<E: Write>(error: &mut E, read: usize, undone: &str) {
     let _ = writeln!(

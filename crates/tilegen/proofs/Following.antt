@@ -4,7 +4,8 @@ use Rattle.std.specs.Io.KnownBytes.{Appends}
 use Rattle.rules.specs.Generator.{state_after_sets, generated}
 use Rattle.rules.proofs.DrawnTexts.{sets_none, sets_after, texts_none, in_pieces}
 use Rattle.stdio.specs.Input.{TookBeginning}
-use Rattle.stdio.proofs.Known.{appends_none, appends_both, beginning_after, beginning_all}
+use Rattle.std.proofs.KnownBytes.{Appends-nil, Appends-trans}
+use Rattle.stdio.proofs.Known.{beginning_after, beginning_all}
 
 -- the texts of m sets, and of n more from the state that they left
 texts_after : (m n seed : ℕ) → generated (m + n) 0 seed ≡ generated m 0 seed ++ generated n m (state_after_sets m seed)
@@ -21,7 +22,7 @@ pub record Printed (seed count : ℕ) (a b : Option (List ℕ)) (number state : 
 module _ (seed count : ℕ) (a : Option (List ℕ)) where
   -- none is printed
   pub printed_none : Printed seed count a a 0 seed
-  printed_none = record { within = omega arith; left = sym (sets_none seed); bytes = subst (Appends a a) (sym (texts_none 0 seed)) (appends_none a) }
+  printed_none = record { within = omega arith; left = sym (sets_none seed); bytes = subst (Appends a a) (sym (texts_none 0 seed)) (Appends-nil a) }
 
   module _ {b : Option (List ℕ)} {number state : ℕ} (P : Printed seed count a b number state) where
     -- all of them are printed
@@ -39,7 +40,7 @@ module _ (seed count : ℕ) (a : Option (List ℕ)) where
           record {
             within = within;
             left = moved ∙ ap (state_after_sets many) P.left ∙ sets_after number many seed ∙ ap (λ (k : ℕ). state_after_sets k seed) (sym e);
-            bytes = rw (e, texts_after number many seed) (appends_both a b c _ _ P.bytes piece);
+            bytes = rw (e, texts_after number many seed) (Appends-trans a b c _ _ P.bytes piece);
           }
 
       -- a beginning of it is printed

@@ -12,8 +12,8 @@ use Rattle.rules.proofs.DrawnTexts.{text_length, sets_none, sets_more, texts_non
 use Rattle.texts.specs.Texts.{text_most, PutsSet, PutsSets}
 
 -- one text has 264 bytes at most
-pub size_most : {s number size after : ℕ} {out exit : List ℕ} → PutsSet s number out size after exit → size ≤ text_most
-size_most {s} {number} puts = omega (arith, puts.says, text_length number s)
+pub size_most : (s number : ℕ) {size after : ℕ} {out exit : List ℕ} → PutsSet s number out size after exit → size ≤ text_most
+size_most s number puts = omega (arith, puts.says, text_length number s)
 
 -- the texts of the first i sets stand at the start of out
 pub record SoFar (s₀ number count : ℕ) (old : List ℕ) (s : ℕ) (out : List ℕ) (at i : ℕ) : Type 0 where
@@ -82,7 +82,7 @@ module _ (s₀ number count : ℕ) (old : List ℕ) where
             texts = texts;
             many = many;
             stands = stands;
-            same = omega (arith, ap length stands, length-append texts (drop (at + size) old), length-drop (at + size) old, many, size_most puts, fits h, so_far.same);
+            same = omega (arith, ap length stands, length-append texts (drop (at + size) old), length-drop (at + size) old, many, size_most s (number + i) puts, fits h, so_far.same);
             due =
                 append_assoc so_far.texts text (generated (count - (i + 1)) (number + (i + 1)) after)
                 ∙ ap (λ (l : List ℕ). so_far.texts ++ l)
@@ -96,7 +96,7 @@ module _ (s₀ number count : ℕ) (old : List ℕ) where
                 ∙ ap (λ (n : ℕ). state_after_sets n s) (sym left)
                 ∙ so_far.moved;
             within = omega arith;
-            put = omega (arith, so_far.put, size_most puts);
+            put = omega (arith, so_far.put, size_most s (number + i) puts);
           }
 
     -- so where the set has the next number and its text goes to the next place

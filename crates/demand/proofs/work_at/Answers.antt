@@ -1,21 +1,26 @@
--- `demand::work_at` sums up the work: from the last task to the first, the sum is that of the tasks from number i on.
-use Rattle.std.proofs.Common.{arith}
-use Rattle.rules.proofs.TasksLeft.{work_sums, total_none, total_more, total_all}
+-- `demand::work_at` sums up the work over the tasks.
+use Rattle.std.proofs.Common.{ℕ, ◌*◌, ◌∙◌, arith, rules, tests}
+use Rattle.std.proofs.lemmas.Iterator.{YieldsList-from_range, YieldsList-from_map}
+use Rattle.std.proofs.lemmas.Iterator.Consumers.{sum_by_from_yields_List}
+use Rattle.std.proofs.lemmas.Iterator.Adapters.{fits_from_length, at_most_from_yields_List}
+use Rattle.std.proofs.lemmas.List.FromFn.{length-range_with_len}
+use Rattle.rules.specs.Demand.{ceiling}
+use Rattle.rules.specs.Table.{task_in, task_count}
+use Rattle.rules.proofs.TasksLeft.{work_sums}
+use Rattle.demand.proofs.Sums.{summed}
 use Rattle.demand.proofs.work_at.Goals as goal
 
-pub loop-i-init : goal.loop-i-init
-loop-i-init c = record { in_range = omega arith; sum_is = rw c.count-i.ensures (total_none (work_sums _) _); sum_fits = omega arith }
+pub sum-requires-clause-fits : goal.sum-requires-clause-fits
+sum-requires-clause-fits c =
+    let m = c.count.result in
+    fits_from_length _ _ 64 _ (at_most_from_yields_List (YieldsList-from_range 0 m m (cc) (omega arith)) (omega (arith, length-range_with_len 0 m)))
+    c.map.ensures.closure (omega arith) (λ x r q k. search (rules, tests))
 
--- one task more
-pub loop-i-preserved : goal.loop-i-preserved
-loop-i-preserved c =
-    let at_loop = c.loop-i.invariant in
-    record {
-      in_range = omega arith;
-      sum_is = total_more (work_sums _) _ _ c.loop-i-test.true at_loop.in_range _ c.task.ensures _ _ at_loop.sum_is c.work_of-sum.ensures.0;
-      sum_fits = omega arith;
-    }
-
--- all tasks
 pub returns : goal.returns
-returns c = total_all (work_sums _) _ c.args.tasks.valid _ c.loop-i-test.false _ c.loop-i.invariant.sum_is
+returns c =
+    let w = c.args.tasks.words.now in
+    let m = task_count w in
+    let part = λ (k : ℕ). (task_in w k).C * ceiling c.args.t (task_in w k).T in
+    sum_by_from_yields_List part _ c.map.result _ c.sum.ensures.ran
+    (YieldsList-from_map _ part (YieldsList-from_range 0 m m (cc) (omega arith)) c.map.ensures.closure (λ x r q k. search (rules, tests)))
+    ∙ summed (work_sums c.args.t) w c.args.tasks.valid

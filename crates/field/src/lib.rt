@@ -1,137 +1,87 @@
 // One field of a sheet, and what follows it: a comma, the end of the record, or neither.
 #![tactic(auto)]
 
-ghost use Rattle.std.specs.Prelude.{◌≡◌};
-ghost use Rattle.rules.specs.Sheet.{mark};
-ghost use Rattle.field.specs.Fields.{Plain, Quoted, Finds, Ends, Steps};
+ghost use Rattle.std.specs.Prelude.{◌≡◌, MatchOption, Some, None};
+ghost use Rattle.rules.specs.Sheet.{mark, content, no_field, read_field, after_end, next_field};
+ghost use Rattle.rules.specs.Standing.{standing, standing_step};
+ghost use Rattle.std.specs.List.{position};
+ghost use Rattle.field.specs.Fields.{Quoted, stepped};
 
-const LF: u8 = 10;
-
-const CR: u8 = 13;
-
-const QUOTE: u8 = 34;
-
-const COMMA: u8 = 44;
-
-// What follows a field: more fields; the end of the record; or it, or what follows it, is not as due.
+// A field: its bytes, without the quotes around them; the bytes after what follows it; and whether that is the end of the record.
 #[derive(Clone, Copy)]
-pub enum Next {
-    More,
-    Last,
-    Wrong,
+pub struct Field<'a> {
+    pub body: &'a [u8],
+    pub rest: &'a [u8],
+    pub last: bool,
 }
 
 // Whether a byte is a quote, a comma, a carriage return or a line feed.
+#[tactic(auto, using(rules::proofs::FieldSteps::is_quote, rules::proofs::FieldSteps::is_comma, rules::proofs::FieldSteps::is_cr, rules::proofs::FieldSteps::is_lf_or_none))]
 fn is_mark(b: u8) -> bool
     ensures { result ≡ mark b }
 {
-    if b == QUOTE {
-        return true;
-    }
-    if b == COMMA {
-        return true;
-    }
-    if b == CR {
-        return true;
-    }
-    b == LF
+    matches!(b, b'\n' | b'\r' | b',' | b'"')
 }
 
-// How many bytes stand before the first mark.
-fn plain_length(s: &[u8]) -> usize
-    ensures { Plain s.now result }
+// Where the first mark stands, if there is one.
+fn first_mark(s: &[u8]) -> Option<usize>
+    ensures { result ≡ position mark s.now }
 {
-    let mut i: usize = 0;
-    while i < s.len() {
-        let marked = is_mark(s[i]);
-        if marked {
-            return i;
-        }
-        i += 1;
-    }
-    i
+    s.iter().position(|b| is_mark(*b))
 }
 
-// How many bytes of a quoted field, after its first quote, stand before the quote that closes it; all there are where none does.
-fn quoted_length(s: &[u8]) -> usize
+// How many bytes of a quoted field, after its first quote, stand before the quote that closes it, if one does.
+fn quoted_length(s: &[u8]) -> Option<usize>
     ensures { Quoted s.now result }
 {
-    let mut i: usize = 0;
-    while i < s.len() {
-        if s[i] == QUOTE {
-            if i + 1 == s.len() {
-                return i;
-            }
-            if s[i + 1] != QUOTE {
-                return i;
-            }
-            i += 1;
-        }
-        i += 1;
-    }
-    i
-}
-
-// The field at the start of s: its bytes, without the quotes around them, go to body, those after it to rest.
-fn read_field<'a>(s: &'a [u8], body: &mut &'a [u8], rest: &mut &'a [u8]) -> bool
-    ensures { Finds s.now body.old.now rest.old.now result body.new.now rest.new.now }
-{
-    let mut quoted = false;
-    if s.len() > 0 {
-        quoted = s[0] == QUOTE;
-    }
-    if !quoted {
-        let n = plain_length(s);
-        *body = &s[..n];
-        *rest = &s[n..];
-        return true;
-    }
-    let t = &s[1..];
-    let n = quoted_length(t);
-    if n == t.len() {
-        return false;
-    }
-    *body = &t[..n];
-    *rest = &t[n + 1..];
-    true
-}
-
-// Whether a record ends at the start of s; the bytes after that go to rest.
-fn end_record<'a>(s: &'a [u8], rest: &mut &'a [u8]) -> bool
-    ensures { Ends s.now rest.old.now result rest.new.now }
-{
-    if s.len() == 0 {
-        *rest = s;
-        return true;
-    }
-    if s[0] == LF {
-        *rest = &s[1..];
-        return true;
-    }
-    lines::skip_key(s, b"\r\n", rest)
-}
-
-// The next field of a record: its bytes, without the quotes around them, go to body, and those after what follows it to rest.
-pub fn next_field<'a>(s: &'a [u8], body: &mut &'a [u8], rest: &mut &'a [u8]) -> Next
-    ensures { Steps s.now body.old.now rest.old.now result body.new.now rest.new.now }
-{
-    let mut inside = s;
-    let mut after = s;
-    let found = read_field(s, &mut inside, &mut after);
-    if !found {
-        return Next::Wrong;
-    }
-    if after.len() > 0 {
-        if after[0] == COMMA {
-            *body = inside;
-            *rest = &after[1..];
-            return Next::More;
+    let mut half = false;
+    for (i, b) in s.iter().enumerate() {
+        if *b == b'"' {
+            half = !half;
+        } else if half {
+            return Some(i - 1);
         }
     }
-    let ended = end_record(after, rest);
-    if !ended {
-        return Next::Wrong;
+    if half { Some(s.len() - 1) } else { None }
+}
+
+// The field at the start of s: its bytes, without the quotes around them, and those after it.
+fn read_field<'a>(s: &'a [u8]) -> Option<(&'a [u8], &'a [u8])>
+    ensures { MatchOption result (standing (read_field s.now) ≡ no_field) (λ p. standing (read_field s.now) ≡ content p.0.now p.1.now) }
+{
+    let Some(t) = lines::skip_key(s, b"\"") else {
+        return Some(s.split_at(first_mark(s).unwrap_or(s.len())));
+    };
+    let n = quoted_length(t)?;
+    Some((&t[..n], &t[n + 1..]))
+}
+
+// The bytes after the end of a record, if one ends at the start of s.
+fn end_record<'a>(s: &'a [u8]) -> Option<&'a [u8]>
+    ensures { MatchOption result (after_end s.now ≡ None) (λ rest. after_end s.now ≡ Some rest.now) }
+{
+    if s.is_empty() {
+        return Some(s);
     }
-    *body = inside;
-    Next::Last
+    lines::skip_key(s, b"\n").or(lines::skip_key(s, b"\r\n"))
+}
+
+// The next field of a record, if it is as due.
+pub fn next_field<'a>(s: &'a [u8]) -> Option<Field<'a>>
+    ensures { stepped result ≡ standing_step (next_field s.now) }
+{
+    let (body, after) = read_field(s)?;
+    if let Some(rest) = lines::skip_key(after, b",") {
+        return Some(Field {
+            body,
+            rest,
+            last: false,
+        });
+    }
+    let rest = end_record(after)?;
+    Some(Field {
+        body,
+        rest,
+        last: true,
+    })
 }

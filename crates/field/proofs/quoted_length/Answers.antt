@@ -1,38 +1,27 @@
--- `field::quoted_length` meets its contract: the loop ends at a quote that none doubles, which closes the field, or where no byte is left, and there
--- the field is not closed.
+-- `field::quoted_length` meets its contract: the loop ends at a byte after a quote that it does not double, which closed the field, or where no byte
+-- is left; there the last byte may be the quote that closes it.
 use Rattle.std.proofs.Common.{arith}
 use Rattle.rules.specs.Sheet.{read_quoted}
-use Rattle.rules.proofs.FieldSteps.{passed_none, quoted_open, quoted_step, quoted_last, quoted_closed, quoted_twice}
-use Rattle.field.proofs.Fields.{closes, stays_open}
+use Rattle.rules.proofs.FieldSteps.{passed_none}
+use Rattle.field.proofs.Fields.{walked_quote, walked_other, walked_closed, walked_open, walked_last}
 use Rattle.field.proofs.quoted_length.Goals as goal
-use Rattle.field.proofs.quoted_length.Goals.{then-s-i-eq-QUOTE+else-i-s+else-s-i-ne-QUOTE, else-s-i-eq-QUOTE}
+use Rattle.field.proofs.quoted_length.Goals.{then-b-eq34, else-b-eq34+else-half}
 
 pub loop-i-init : goal.loop-i-init
-loop-i-init c = (omega arith, passed_none read_quoted _)
+loop-i-init c = passed_none read_quoted _
 
--- a quote is the last byte
-pub returns-then-i-s : goal.returns-then-i-s
-returns-then-i-s c =
-    closes _ _ c.loop-i-test.true (quoted_last _ _ c.loop-i.invariant.1 c.loop-i-test.true c.if-s-i-eq-QUOTE.true c.if-i-s.true)
+pub returns-then-half : goal.returns-then-half
+returns-then-half c = walked_closed _ _ c.loop-i-test.true (rw c.if-half.true at c.loop-i.invariant) c.if-b-eq34.false
 
--- another byte follows a quote
-pub returns-then-s-i-ne-QUOTE : goal.returns-then-s-i-ne-QUOTE
-returns-then-s-i-ne-QUOTE c =
-    closes _ _ c.loop-i-test.true
-    (quoted_closed _ _ c.loop-i.invariant.1 c.loop-i-test.true c.if-s-i-eq-QUOTE.true (omega arith) c.if-s-i-ne-QUOTE.true)
-
--- two quotes or another byte are passed
 pub loop-i-preserved : goal.loop-i-preserved
 loop-i-preserved c =
-    let so_far = c.loop-i.invariant.1 in
-    elim c.if-s-i-eq-QUOTE.branch [
-      | then-s-i-eq-QUOTE+else-i-s+else-s-i-ne-QUOTE w ↦ (
-        omega arith,
-        rw w.i-is (quoted_twice _ _ so_far c.loop-i-test.true w.if-s-i-eq-QUOTE.true (omega arith) w.if-s-i-ne-QUOTE.false),
-      )
-      | else-s-i-eq-QUOTE w ↦ (omega arith, rw w.i-is (quoted_step _ _ so_far c.loop-i-test.true w.if-s-i-eq-QUOTE.false))
+    elim c.if-b-eq34.branch [
+      | then-b-eq34 w ↦ rw w.half-is (walked_quote _ _ c.loop-i-test.true c.loop-i.half c.loop-i.invariant w.if-b-eq34.true)
+      | else-b-eq34+else-half w ↦ rw (w.half-is, w.if-half.false) (walked_other _ _ c.loop-i-test.true (rw w.if-half.false at c.loop-i.invariant) w.if-b-eq34.false)
     ]
 
--- no byte is left
-pub returns : goal.returns
-returns c = stays_open _ _ c.loop-i.invariant.0 c.loop-i-test.false (quoted_open _ _ c.loop-i.invariant.1 c.loop-i-test.false)
+pub returns-then-half-2 : goal.returns-then-half-2
+returns-then-half-2 c = walked_last _ _ (omega arith) (omega arith) (rw c.if-half-2.true at c.loop-i.invariant)
+
+pub returns-else-half-2 : goal.returns-else-half-2
+returns-else-half-2 c = walked_open _ _ (omega arith) (rw c.if-half-2.false at c.loop-i.invariant)

@@ -1,11 +1,6 @@
--- `field::quoted_length`'s loop: at each turn the bytes before i are passed, each quote among them with the one that doubles it.
-use Rattle.std.proofs.Common.{length, ◌-◌, ◌≤◌}
-use Rattle.rules.specs.Sheet.{read_quoted}
-use Rattle.rules.proofs.FieldSteps.{Passed}
+-- `field::quoted_length`'s loop: at each turn the bytes before i are passed; or all but the last of them are, and that one is a quote that may close the field.
+use Rattle.field.proofs.Fields.{Walked}
 use Rattle.field.proofs.quoted_length.Given as goal
 
 abbrev pub invariant-loop-i : goal.invariant-loop-i
-invariant-loop-i l = (l.i ≤ length l.s) × Passed read_quoted l.s l.i
-
-abbrev pub decreases-loop-i : goal.decreases-loop-i
-decreases-loop-i l = length l.s - l.i
+invariant-loop-i l = Walked l.s l.half l.i

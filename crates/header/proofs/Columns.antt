@@ -1,42 +1,61 @@
 -- The fields of a header one after another: which of the four names have come, and in which columns.
 use mathlib.Core.Path.{◌≡◌, refl, sym, ap, ◌∙◌}
-use Prim.Native.Nat.{ℕ, ◌+◌, ◌≤◌, ◌<◌}
+use borrow.Author.Tests.{ne_eqb}
+use Prim.Native.Nat.{ℕ, zero, suc, ◌+◌, ◌≤◌, ◌<◌}
 use native.Mathlib.Omega.{arith}
 use mathlib.Core.List.{List, [], ◌∷◌, ◌++◌}
-use mathlib.Core.Bool.{true, false, not}
+use mathlib.Core.Bool.{Bool, true, false, not, ◌&&◌}
 use lib.Dec.{eqb}
+use Rattle.std.proofs.lemmas.List.{get_or-map, length-map}
 use lib.ListN.{length, get_or, length-append, get_or-replicate}
 use Rattle.rules.specs.Sheet.{Record, fields, no_record, before, read_record, name_of, is_name, times, column_from, good_header, columns_of, read_sheet, no_header}
 use Rattle.rules.specs.Sheets.{doubled}
 use Rattle.rules.proofs.Records.{befores, befores_none, befores_more, befores_all, befores_nothing, name_standing}
-use Rattle.rules.proofs.HeaderSteps.{unnamed, times_none, first_more, once_more, twice_more, once_named, good_by, columns_are, no_record_law, bad_header, not_both, name_twice}
-use Rattle.header.specs.Headers.{Notes, all_named, Heads, bad, good, HeadsOne}
+use Rattle.rules.proofs.HeaderSteps.{unnamed, times_none, first_more, once_more, twice_more, once_named, good_by, columns_are, columns_four, columns_within, no_record_law, bad_header, not_both, name_twice}
+use Rattle.header.specs.Within.{Within}
+use Rattle.header.specs.Headers.{Notes, Good, good, HeadsOne}
+use Rattle.std.specs.Prelude.{Option, Some, None, map, if◌then◌else◌}
+
+-- a name's column, if it has one, is this one, which is 0 where it has none
+abbrev pub Column : Option ℕ → ℕ → Type 0
+Column (Some n) k = (n ≡ k) × (0 < k)
+Column None k = k ≡ 0
+
+column_there : (noted : Option ℕ) (k : ℕ) → Column noted k → (noted ≡ None → ⊥) → k ≡ 0 → ⊥
+column_there (Some n) k c some e = omega (arith, c.1)
+column_there None k c some e = some refl
 
 -- the columns of the names that have come are noted, and none came twice
-pub record Noted (cs : List (List ℕ)) (columns : List ℕ) : Type 0 where
+pub record Noted (cs : List (List ℕ)) (columns : List (Option ℕ)) : Type 0 where
   pub four : length columns ≡ 4
-  pub each : (k : ℕ) → k < 4 → get_or columns k 0 ≡ column_from 1 (name_of k) cs
+  pub each : (k : ℕ) → k < 4 → Column (get_or columns k None) (column_from 1 (name_of k) cs)
   pub once : (k : ℕ) → k < 4 → times (name_of k) cs ≤ 1
 
-noted_none : Noted [] (0 ∷ 0 ∷ 0 ∷ 0 ∷ [])
+noted_none : Noted [] (None ∷ None ∷ None ∷ None ∷ [])
 noted_none = record {
   four = refl;
-  each = λ k h. get_or-replicate 4 k 0 0 h ∙ sym (unnamed (name_of k) 1 [] (times_none (name_of k)));
+  each = λ k h. rw (get_or-replicate {A = Option ℕ} 4 k None None h) (unnamed (name_of k) 1 [] (times_none (name_of k)));
   once = λ k h. omega (arith, times_none (name_of k));
 }
 
 -- one field more
-module _ (cs : List (List ℕ)) (columns : List ℕ) (so_far : Noted cs columns) (c : List ℕ) (exit : List ℕ) where
+module _ (cs : List (List ℕ)) (columns : List (Option ℕ)) (so_far : Noted cs columns) (c : List ℕ) (exit : List (Option ℕ)) where
   module _ (says : Notes (doubled c) (length cs + 1) columns true exit) where
     -- a name that it is has no column yet
     new : (k : ℕ) → k < 4 → is_name (name_of k) c ≡ true → column_from 1 (name_of k) cs ≡ 0
-    new k h is = sym (so_far.each k h) ∙ says.new refl k h (name_standing k c ∙ is)
+    new k h is = rw (says.new refl k h (name_standing k c ∙ is)) at (so_far.each k h)
+
+    column_more : (k : ℕ) → k < 4 → Column (if is_name (name_of k) c then Some (length cs + 1) else get_or columns k None) (if is_name (name_of k) c then length cs + 1 else column_from 1 (name_of k) cs)
+    column_more k h = by_name (is_name (name_of k) c)
+      where
+        by_name : (b : Bool) → Column (if b then Some (length cs + 1) else get_or columns k None) (if b then length cs + 1 else column_from 1 (name_of k) cs)
+        by_name true = (refl, omega arith)
+        by_name false = so_far.each k h
 
     noted_more : Noted (cs ++ (c ∷ [])) exit
     noted_more = record {
       four = says.four ∙ so_far.four;
-      each = λ k h.
-          rw (first_more (name_of k) cs (so_far.once k h) c (new k h), ← so_far.each k h, ← name_standing k c) (says.notes refl k h);
+      each = λ k h. rw (says.notes refl k h, name_standing k c, first_more (name_of k) cs (so_far.once k h) c (new k h)) (column_more k h);
       once = λ k h. once_more (name_of k) cs (so_far.once k h) c (new k h);
     }
 
@@ -44,35 +63,64 @@ module _ (cs : List (List ℕ)) (columns : List ℕ) (so_far : Noted cs columns)
   noted_twice says =
       let found = says.twice refl in
       let k = found.0 in
-      (k, found.1, twice_more (name_of k) cs c (sym (name_standing k c) ∙ found.2) (λ e. found.3 (so_far.each k found.1 ∙ e)))
+      (k, found.1, twice_more (name_of k) cs c (sym (name_standing k c) ∙ found.2) (column_there (get_or columns k None) (column_from 1 (name_of k) cs) (so_far.each k found.1) found.3))
+
+and_false : (b : Bool) → (b && false) ≡ false
+and_false true = refl
+and_false false = refl
+
+-- of four tests one fails
+any_fails : (test : ℕ → Bool) (k : ℕ) → k < 4 → test k ≡ false → (test 0 && (test 1 && (test 2 && test 3))) ≡ false
+any_fails test zero h e = rw e
+any_fails test (suc zero) h e = rw (e, and_false (test 0))
+any_fails test (suc (suc zero)) h e = rw (e, and_false (test 1), and_false (test 0))
+any_fails test (suc (suc (suc zero))) h e = rw (e, and_false (test 2), and_false (test 1), and_false (test 0))
+any_fails test (suc (suc (suc (suc k)))) h e = absurd (omega arith)
 
 -- all fields are read
-module _ (hs : List (List ℕ)) (columns : List ℕ) (all : Noted hs columns) where
-  good_is : good_header hs ≡ all_named columns
-  unfolding all_named
-  good_is =
-      good_by hs (λ k. not (eqb (get_or columns k 0) 0)) (λ k h. once_named (name_of k) hs (all.once k h) ∙ ap (λ (n : ℕ). not (eqb n 0)) (sym (all.each k h)))
+module _ (hs : List (List ℕ)) (noted : List (Option ℕ)) (all : Noted hs noted) where
+  good_by_columns : good_header hs ≡ (not (eqb (column_from 1 (name_of 0) hs) 0) && (not (eqb (column_from 1 (name_of 1) hs) 0) && (not (eqb (column_from 1 (name_of 2) hs) 0) && not (eqb (column_from 1 (name_of 3) hs) 0))))
+  good_by_columns = good_by hs (λ k. not (eqb (column_from 1 (name_of k) hs) 0)) (λ k h. once_named (name_of k) hs (all.once k h))
 
-  columns_noted : columns ≡ columns_of hs
-  columns_noted = columns_are hs columns all.four all.each
+  -- a name has no column
+  missing_is : (k : ℕ) → k < 4 → get_or noted k None ≡ None → good_header hs ≡ false
+  missing_is k h e =
+      let none : column_from 1 (name_of k) hs ≡ 0 = rw e at (all.each k h) in
+      good_by_columns ∙ any_fails (λ k. not (eqb (column_from 1 (name_of k) hs) 0)) k h (rw none)
+
+  -- all have one
+  module _ (columns : List ℕ) (are : noted ≡ map Some columns) where
+    long : length columns ≡ 4
+    long = sym (length-map columns Some) ∙ sym (ap length are) ∙ all.four
+
+    column : (k : ℕ) → k < 4 → (get_or columns k 0 ≡ column_from 1 (name_of k) hs) × (0 < column_from 1 (name_of k) hs)
+    column k h =
+        let at : get_or noted k None ≡ Some (get_or columns k 0) = ap (λ (l : List (Option ℕ)). get_or l k None) are ∙ get_or-map Some columns k 0 None (omega (arith, long)) in
+        rw at at (all.each k h)
+
+    good_is : good_header hs ≡ true
+    good_is = good_by hs (λ k. true) (λ k h. once_named (name_of k) hs (all.once k h) ∙ ap not (ne_eqb (column_from 1 (name_of k) hs) 0 (omega (arith, (column k h).1))))
+
+    columns_noted : columns ≡ columns_of hs
+    columns_noted = columns_are hs columns long (λ k h. (column k h).0)
 
 -- so many fields of the header of s are read and noted, and so much of its record is left
-pub record Headed (s : List ℕ) (left : Record) (count : ℕ) (columns : List ℕ) : Type 0 where
+pub record Headed (s : List ℕ) (left : Record) (count : ℕ) (columns : List (Option ℕ)) : Type 0 where
   pub contents : List (List ℕ)
   pub reads : befores contents left ≡ read_record s
   pub counts : length contents ≡ count
   pub noted : Noted contents columns
 
-pub headed_none : (s columns : List ℕ) → columns ≡ 0 ∷ 0 ∷ 0 ∷ 0 ∷ [] → Headed s (read_record s) 0 columns
-headed_none s columns e = record { contents = []; reads = befores_none (read_record s); counts = refl; noted = rw e noted_none }
+pub headed_none : (s : List ℕ) → Headed s (read_record s) 0 (None ∷ None ∷ None ∷ None ∷ [])
+headed_none s = record { contents = []; reads = befores_none (read_record s); counts = refl; noted = noted_none }
 
-module _ {s columns : List ℕ} {count : ℕ} where
+module _ {s : List ℕ} {columns : List (Option ℕ)} {count : ℕ} where
   -- what is left is no record
   pub headed_wrong : Headed s no_record count columns → read_sheet s ≡ no_header
   headed_wrong so_far = no_record_law s (sym so_far.reads ∙ befores_nothing so_far.contents)
 
   -- a field is left, whose name is looked for
-  module _ (c : List ℕ) (left : Record) (so_far : Headed s (before c left) count columns) (exit : List ℕ) where
+  module _ (c : List ℕ) (left : Record) (so_far : Headed s (before c left) count columns) (exit : List (Option ℕ)) where
     with_field : befores (so_far.contents ++ (c ∷ [])) left ≡ read_record s
     with_field = sym (befores_more so_far.contents c left) ∙ so_far.reads
 
@@ -94,18 +142,33 @@ module _ {s columns : List ℕ} {count : ℕ} where
     whole : read_record s ≡ fields all.contents u
     whole = sym all.reads ∙ befores_all all.contents u
 
-    pub headed_bad : all_named columns ≡ false → read_sheet s ≡ no_header
-    headed_bad missing = bad_header s all.contents u whole (good_is all.contents columns all.noted ∙ missing)
+    pub headed_bad : (k : ℕ) → k < 4 → get_or columns k None ≡ None → read_sheet s ≡ no_header
+    headed_bad k h e = bad_header s all.contents u whole (missing_is all.contents columns all.noted k h e)
 
-    pub headed_good : all_named columns ≡ true → (old : List ℕ) → Heads s old count columns u
-    headed_good named old =
-        rw (← all.counts, columns_noted all.contents columns all.noted) (good whole (good_is all.contents columns all.noted ∙ named))
+    pub headed_good : (named : List ℕ) → columns ≡ map Some named → Good s named count u
+    headed_good named e = rw (← all.counts, columns_noted all.contents columns all.noted named e) (good whole (good_is all.contents columns all.noted named e))
+
+-- the columns of a good header are among those that it has
+pub good_within : {s columns after : List ℕ} {count : ℕ} → Good s columns count after → Within columns count
+good_within (good {hs} e named) = record {
+  four = columns_four hs;
+  from_one = λ k h. (columns_within hs named k h).0;
+  to_last = λ k h. (columns_within hs named k h).1;
+}
 
 -- one outcome: no header is both good and bad, and a good one is one record's
-pub heads_one : HeadsOne
-heads_one s old m n columns others after rest (bad e) (bad f) = (refl, refl, λ k. absurd (k refl))
-heads_one s old m n columns others after rest (bad e) (good f g) = absurd (not_both s _ rest f g e)
-heads_one s old m n columns others after rest (good e g) (bad f) = absurd (not_both s _ after e g f)
-heads_one s old m n columns others after rest (good {hs} e g) (good {hs = gs} f h) =
+one_good : (s columns others after rest : List ℕ) (m n : ℕ) → Good s columns m after → Good s others n rest
+    → ◌≡◌ {A = Option (List ℕ × ℕ × List ℕ)} (Some (columns, m, after)) (Some (others, n, rest))
+one_good s columns others after rest m n (good {hs} e g) (good {hs = gs} f h) =
     let same : hs ≡ gs = cc in
-    (ap length same, (cc), λ k. ap columns_of same)
+    let left : after ≡ rest = cc in
+    rw (same, left)
+
+never : (s columns after : List ℕ) (m : ℕ) → Good s columns m after → read_sheet s ≡ no_header → ⊥
+never s columns after m (good {hs} e g) f = not_both s hs after e g f
+
+pub heads_one : HeadsOne
+heads_one s (Some h) (Some i) a b = one_good s h.columns i.columns h.rest.now i.rest.now h.count i.count a b
+heads_one s (Some h) None a b = absurd (never s h.columns h.rest.now h.count a b)
+heads_one s None (Some i) a b = absurd (never s i.columns i.rest.now i.count b a)
+heads_one s None None a b = refl

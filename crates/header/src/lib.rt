@@ -1,101 +1,75 @@
 // The header of a sheet: how many columns there are, and which of them have the four names.
 #![tactic(auto)]
 
-ghost use Rattle.std.specs.Prelude.{◌≡◌, ◌<◌, [], ◌∷◌, length};
+ghost use Rattle.std.specs.Prelude.{◌≡◌, ◌<◌, length};
 ghost use Rattle.rules.specs.Sheet.{name_of, is_name};
-ghost use Rattle.header.specs.Headers.{Notes, all_named, Heads};
+ghost use Rattle.header.specs.Headers.{Notes, AllOf, Heads};
 
-use field::Next;
+mod found;
+
+pub use found::Header;
+
 use rules::{DEADLINE, EXECUTION, PERIOD, RELEASE};
+
+// The name of a column, by the place of its word in a task.
+pub fn column_name(which: usize) -> &'static [u8]
+    requires { which < 4 }
+    ensures { result.now ≡ name_of which }
+{
+    match which {
+        0 => &EXECUTION,
+        1 => &DEADLINE,
+        2 => &PERIOD,
+        _ => &RELEASE,
+    }
+}
 
 // Whether bytes are a name.
 pub fn is_name(body: &[u8], name: &[u8]) -> bool
     ensures { result ≡ is_name name.now body.now }
 {
-    let mut rest = body;
-    let begins = lines::skip_key(body, name, &mut rest);
-    if !begins {
-        return false;
-    }
-    rest.len() == 0
+    body == name
 }
 
-// Whether bytes are one of the four names.
-fn is_column(body: &[u8], which: usize) -> bool
-    requires { which < 4 }
-    ensures { result ≡ is_name (name_of which) body.now }
-{
-    match which {
-        0 => is_name(body, &EXECUTION),
-        1 => is_name(body, &DEADLINE),
-        2 => is_name(body, &PERIOD),
-        _ => is_name(body, &RELEASE),
-    }
-}
-
-// A column's name is noted where it is one of the four, whose columns are 0 until then; the answer is whether none was noted before.
-fn note_name(body: &[u8], column: usize, columns: &mut [usize; 4]) -> bool
-    requires { length columns.old ≡ 4 }
+// A column's name is noted where it is one of the four; the answer is whether none was noted before.
+fn note_name(body: &[u8], column: usize, columns: &mut [Option<usize>; 4]) -> bool
     ensures { Notes body.now column columns.old result columns.new }
 {
-    let mut k: usize = 0;
-    while k < 4 {
-        let named = is_column(body, k);
-        if named {
-            if columns[k] != 0 {
+    for (k, noted) in columns.iter_mut().enumerate() {
+        if is_name(body, column_name(k)) {
+            if noted.is_some() {
                 return false;
             }
-            columns[k] = column;
+            *noted = Some(column);
         }
-        k += 1;
     }
     true
 }
 
-// Whether all four have a column.
-fn all_named(columns: &[usize; 4]) -> bool
-    ensures { result ≡ all_named columns.now }
+// The columns of the four names, if all have one.
+fn all_named(columns: &[Option<usize>; 4]) -> Option<[usize; 4]>
+    ensures { AllOf columns.now result }
 {
-    if columns[0] == 0 {
-        return false;
-    }
-    if columns[1] == 0 {
-        return false;
-    }
-    if columns[2] == 0 {
-        return false;
-    }
-    columns[3] != 0
+    Some([columns[0]?, columns[1]?, columns[2]?, columns[3]?])
 }
 
-// The header at the start of a sheet: how many columns it has, 0 where it is missing or bad; those of the four names go to columns, counted from 1,
-// and the bytes after the header to rest.
-pub fn read_header<'a>(s: &'a [u8], columns: &mut [usize; 4], rest: &mut &'a [u8]) -> usize
-    requires { columns.old ≡ 0 ∷ 0 ∷ 0 ∷ 0 ∷ [] }
-    ensures { Heads s.now rest.old.now result columns.new rest.new.now }
+// The header at the start of a sheet, if it is there and good.
+pub fn read_header<'a>(s: &'a [u8]) -> Option<Header<'a>>
+    ensures { Heads s.now result }
 {
-    let mut t = s;
+    let mut rest = s;
     let mut count: usize = 0;
+    let mut columns = [None; 4];
     loop {
-        let mut body = t;
-        let mut u = t;
-        let next = field::next_field(t, &mut body, &mut u);
-        if let Next::Wrong = next {
-            return 0;
-        }
+        let field = field::next_field(rest)?;
         count += 1;
-        let once = note_name(body, count, columns);
-        if !once {
-            return 0;
+        if !note_name(field.body, count, &mut columns) {
+            return None;
         }
-        if let Next::Last = next {
-            let all = all_named(columns);
-            if !all {
-                return 0;
-            }
-            *rest = u;
-            return count;
+        rest = field.rest;
+        if field.last {
+            let columns = all_named(&columns)?;
+            return Some(Header { columns, count, rest });
         }
-        t = u;
     }
 }

@@ -1,10 +1,6 @@
 -- `header::note_name`'s loop: at each turn the names looked at have the column if they are the bytes, and the others stay.
-use Rattle.std.proofs.Common.{◌-◌}
 use Rattle.header.proofs.Noting.{Noting}
 use Rattle.header.proofs.note_name.Given as goal
 
 abbrev pub invariant-loop-k : goal.invariant-loop-k
 invariant-loop-k l = Noting l.body l.column l.initial.columns l.k l.columns
-
-abbrev pub decreases-loop-k : goal.decreases-loop-k
-decreases-loop-k l = 4 - l.k

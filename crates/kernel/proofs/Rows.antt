@@ -3,7 +3,7 @@ use mathlib.Core.Path.{◌≡◌, refl, sym, ap, ◌∙◌}
 use Prim.Native.Nat.{ℕ, ◌+◌, ◌-◌, ◌≤◌, ◌<◌}
 use native.Mathlib.Omega.{arith}
 use mathlib.Core.List.{List, [], ◌∷◌, ◌++◌}
-use mathlib.Core.Bool.{Bool, true, false}
+
 use lib.ListN.{length, get_or, length-append, get_or-append}
 use lib.Seq.{get_or_at}
 use Rattle.rules.specs.Sheet.{Record, fields, no_record, before, field_number, row, no_row, read_row}
@@ -11,8 +11,9 @@ use Rattle.rules.specs.Sheets.{doubled}
 use Rattle.rules.proofs.Booleans.{split}
 use Rattle.rules.proofs.Records.{befores, befores_none, befores_more, befores_all, befores_nothing, number_standing}
 use Rattle.rules.proofs.RowSteps.{row_none, row_other, row_right, row_wrong}
-use Rattle.kernel.specs.Kernels.{Stores, Within}
-use Rattle.std.specs.Prelude.{Some}
+use Rattle.header.specs.Within.{Within}
+use Rattle.kernel.specs.Kernels.{Stores}
+use Rattle.std.specs.Prelude.{Option, Some, None}
 
 -- n fields are taken: their contents before what is left are the record due, and each word whose column they have is its number
 pub record Taking (due : Record) (columns words : List ℕ) (n : ℕ) (left : Record) : Type 0 where
@@ -51,8 +52,8 @@ module _ (due : Record) (columns : List ℕ) (count : ℕ) (in_header : Within c
       at_last : (k : ℕ) → get_or columns k 0 ≡ n + 1 → get_or (so_far.contents ++ (c ∷ [])) (get_or columns k 0 - 1) [] ≡ c
       at_last k e = get_or_at so_far.contents c [] [] (get_or columns k 0 - 1) (omega (arith, so_far.counted))
 
-      module _ {answer : Bool} {exit : List ℕ} (stores : Stores body (n + 1) columns words answer exit) where
-        pub refused : answer ≡ false → read_row count columns due ≡ no_row
+      module _ {answer : Option (Unit {0})} {exit : List ℕ} (stores : Stores body (n + 1) columns words answer exit) where
+        pub refused : answer ≡ None → read_row count columns due ≡ no_row
         refused f =
             let missing = stores.none_here f in
             let k = missing.0 in
@@ -67,7 +68,7 @@ module _ (due : Record) (columns : List ℕ) (count : ℕ) (in_header : Within c
             (ap field_number (at_last k missing.2) ∙ sym number ∙ missing.3)
             left
 
-        pub one_more : answer ≡ true → Taking due columns exit (n + 1) left
+        pub one_more : answer ≡ Some tt → Taking due columns exit (n + 1) left
         one_more t =
             record {
               contents = so_far.contents ++ (c ∷ []);

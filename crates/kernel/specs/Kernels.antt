@@ -1,68 +1,48 @@
 -- What the calls on the records after a header promise.
-use Rattle.std.specs.Prelude.{◌≡◌, ℕ, ◌*◌, ◌≤◌, ◌<◌, List, [], Bool, true, false, length, take, get_or}
+use Rattle.std.specs.Prelude.{◌≡◌, ℕ, ◌*◌, ◌≤◌, ◌<◌, List, [], Option, Some, None, Result, Ok, Err, MatchOption, length, take, get_or}
+use Rattle.kernel.specs.declared.Kernel.{Kernel}
 use Rattle.rules.specs.Numbers.{task_most}
-use Rattle.rules.specs.Sheet.{read_record, field_number, Row, row, no_row, read_row, Sheet, tasks, wrong, read_tasks}
-use Rattle.lines.specs.declared.Number.{Number}
-use Rattle.lines.specs.declared.Number.TheVariants.{Value, Wrong}
-use Rattle.kernel.specs.declared.Kernels.{Kernels}
-use Rattle.std.specs.Prelude.{Option, Some, None}
-
--- the answer of a search for a number
-abbrev pub number_of : Number → Option ℕ
-number_of (Value v) = Some v
-number_of Wrong = None
+use Rattle.rules.specs.Sheet.{read_record, field_number, row, no_row, read_row, Sheet, tasks, wrong, read_tasks}
+use Rattle.rules.specs.declared.Refusal.{Refusal}
+use Rattle.rules.specs.declared.Refusal.TheVariants.{BadRecord}
 
 -- the number of a field goes to each word whose column it is, and the others stay; or it is no number where one is asked for
-pub record Stores (body : List ℕ) (column : ℕ) (columns old : List ℕ) (answer : Bool) (exit : List ℕ) : Type 0 where
+pub record Stores (body : List ℕ) (column : ℕ) (columns old : List ℕ) (answer : Option (Unit {0})) (exit : List ℕ) : Type 0 where
   pub four : length exit ≡ length old
-  pub here : answer ≡ true → (k : ℕ) → k < 4 → get_or columns k 0 ≡ column → field_number body ≡ Some (get_or exit k 0)
+  pub here : answer ≡ Some tt → (k : ℕ) → k < 4 → get_or columns k 0 ≡ column → field_number body ≡ Some (get_or exit k 0)
   pub elsewhere : (k : ℕ) → k < 4 → (get_or columns k 0 ≡ column → ⊥) → get_or exit k 0 ≡ get_or old k 0
-  pub none_here : answer ≡ false → (k : ℕ) × (k < 4) × (get_or columns k 0 ≡ column) × (field_number body ≡ None)
+  pub none_here : answer ≡ None → (k : ℕ) × (k < 4) × (get_or columns k 0 ≡ column) × (field_number body ≡ None)
 
--- the columns of the four names are columns of the header, which are counted from 1
-pub record Within (columns : List ℕ) (count : ℕ) : Type 0 where
-  pub four : length columns ≡ 4
-  pub from_one : (k : ℕ) → k < 4 → 1 ≤ get_or columns k 0
-  pub to_last : (k : ℕ) → k < 4 → get_or columns k 0 ≤ count
-
--- the answer for one record, with its words and the bytes after it
-abbrev pub taken : Bool → List ℕ → List ℕ → Row
-taken true ws rest = row ws rest
-taken false ws rest = no_row
-
--- one record: its words, and the bytes after it; or rest stays
-pub record Takes (s columns : List ℕ) (count : ℕ) (old : List ℕ) (answer : Bool) (words rest : List ℕ) : Type 0 where
-  pub four : length words ≡ 4
-  pub says : taken answer words rest ≡ read_row count columns (read_record s)
-  pub keeps : answer ≡ false → rest ≡ old
-
--- the answer for all records, with the words
-abbrev pub words_of : Kernels → List ℕ → Sheet
-words_of (Kernels.Whole n) words = tasks (take (4 * n) words)
-words_of (Kernels.Wrong l) words = wrong l
-
--- at most as many as a tile has tasks
-abbrev pub Counted : Kernels → Type 0
-Counted (Kernels.Whole n) = n ≤ task_most
-Counted (Kernels.Wrong l) = Unit {0}
+-- what a sheet's records are by the answer and the words: at most as many rows as a tile has tasks, or the number of one that is not as due
+pub data Said (words : List ℕ) : Result ℕ Refusal → Sheet → Type 0 where
+  whole : {n : ℕ} → n ≤ task_most → Said words (Ok n) (tasks (take (4 * n) words))
+  stopped : {l : ℕ} → Said words (Err (BadRecord l)) (wrong l)
 
 -- all records up to the end of the sheet
-pub record Reads (s columns : List ℕ) (count : ℕ) (answer : Kernels) (words : List ℕ) : Type 0 where
+pub record Reads (s columns : List ℕ) (count : ℕ) (answer : Result ℕ Refusal) (words : List ℕ) : Type 0 where
   pub long : length words ≡ 4 * task_most
-  pub counted : Counted answer
-  pub says : words_of answer words ≡ read_tasks count columns task_most 2 s
+  pub said : Said words answer (read_tasks count columns task_most 2 s)
 
--- two outcomes of one record are equal: the answer, the bytes after it, and its words where it is as due
+-- a record gives a row, or none
+abbrev pub Takes : List ℕ → List ℕ → ℕ → Option Kernel → Type 0
+Takes s columns count answer =
+    MatchOption answer (read_row count columns (read_record s) ≡ no_row) (λ k. read_row count columns (read_record s) ≡ row k.words k.rest.now)
+
+-- a row that was found, by what it holds
+abbrev pub held : Option Kernel → Option (List ℕ × List ℕ)
+held (Some k) = Some (k.words, k.rest.now)
+held None = None
+
+-- two outcomes of one record hold the same
 abbrev pub TakesOne : Type 0
-TakesOne = (s columns : List ℕ) (count : ℕ) (old : List ℕ) (a b : Bool) (ws vs r q : List ℕ)
-    → Takes s columns count old a ws r → Takes s columns count old b vs q → (a ≡ b) × (r ≡ q) × (a ≡ true → ws ≡ vs)
+TakesOne = (s columns : List ℕ) (count : ℕ) (a b : Option Kernel) → Takes s columns count a → Takes s columns count b → held a ≡ held b
 
 -- the words of the kernels that were answered
-abbrev pub answered : Kernels → List ℕ → List ℕ
-answered (Kernels.Whole n) words = take (4 * n) words
-answered (Kernels.Wrong l) words = []
+abbrev pub answered : Result ℕ Refusal → List ℕ → List ℕ
+answered (Ok n) words = take (4 * n) words
+answered (Err r) words = []
 
 -- two outcomes of all records are equal: the answer, and the words that it counts
 abbrev pub ReadsOne : Type 0
-ReadsOne = (s columns : List ℕ) (count : ℕ) (a b : Kernels) (ws vs : List ℕ)
+ReadsOne = (s columns : List ℕ) (count : ℕ) (a b : Result ℕ Refusal) (ws vs : List ℕ)
     → Reads s columns count a ws → Reads s columns count b vs → (a ≡ b) × (answered a ws ≡ answered b vs)

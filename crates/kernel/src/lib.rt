@@ -4,105 +4,83 @@
 ghost use Rattle.std.specs.Prelude.{◌≡◌, length};
 ghost use Rattle.rules.specs.Numbers.{table_most};
 ghost use Rattle.rules.specs.Sheet.{field_number};
-ghost use Rattle.kernel.specs.Kernels.{number_of, Stores, Within, Takes, Reads};
+ghost use Rattle.kernel.specs.Kernels.{Stores, Takes, Reads};
 
-use field::Next;
-use lines::Number;
+use header::Header;
+use rules::Refusal;
 use table::TASK_MOST;
 
-// How many kernels there are, or the number of the first record that is not as due.
+// A kernel: its four words, and the bytes after its record.
 #[derive(Clone, Copy)]
-pub enum Kernels {
-    Whole(usize),
-    Wrong(u32),
+struct Kernel<'a> {
+    words: [u32; 4],
+    rest: &'a [u8],
 }
 
 // The number that bytes are, all of them.
-fn field_number(body: &[u8]) -> Number
-    ensures { number_of result ≡ field_number body.now }
+#[tactic(auto, using(rules::proofs::RowSteps::no_number, rules::proofs::RowSteps::whole_number, rules::proofs::RowSteps::number_and_more))]
+fn field_number(body: &[u8]) -> Option<u32>
+    ensures { result ≡ field_number body.now }
 {
-    let mut rest = body;
-    let number = lines::read_number(body, &mut rest);
-    if rest.len() != 0 {
-        return Number::Wrong;
+    let (number, rest) = lines::read_number(body)?;
+    if !rest.is_empty() {
+        return None;
     }
-    number
+    Some(number)
 }
 
-// The number in a column goes to each word whose column it is; the answer is whether it is as due there.
-fn store_number(body: &[u8], column: usize, columns: &[usize; 4], words: &mut [u32]) -> bool
-    requires { length words.old ≡ 4 }
+// The number in a column goes to each word whose column it is, if it is as due there.
+fn store_number(body: &[u8], column: usize, columns: &[usize; 4], words: &mut [u32; 4]) -> Option<()>
     ensures { Stores body.now column columns.now words.old result words.new }
 {
-    let mut k: usize = 0;
-    while k < 4 {
+    for k in 0..4 {
         if columns[k] == column {
-            let number = field_number(body);
-            let Number::Value(v) = number else {
-                return false;
-            };
-            words[k] = v;
+            words[k] = field_number(body)?;
         }
-        k += 1;
     }
-    true
+    Some(())
 }
 
-// A kernel's record: its numbers go to words, the bytes after it to rest.
-fn read_kernel<'a>(
-    s: &'a [u8],
-    columns: &[usize; 4],
-    count: usize,
-    words: &mut [u32],
-    rest: &mut &'a [u8],
-) -> bool
-    requires { (length words.old ≡ 4) × Within columns.now count }
-    ensures { Takes s.now columns.now count rest.old.now result words.new rest.new.now }
+// The kernel of the record at the start of s, if it is as due.
+fn read_kernel<'a>(s: &'a [u8], header: Header<'_>) -> Option<Kernel<'a>>
+    ensures { Takes s.now header.entry.columns header.entry.count result }
 {
-    let mut t = s;
+    let mut rest = s;
     let mut n: usize = 0;
+    let mut words = [0u32; 4];
     loop {
-        let mut body = t;
-        let mut u = t;
-        let next = field::next_field(t, &mut body, &mut u);
-        if let Next::Wrong = next {
-            return false;
-        }
+        let field = field::next_field(rest)?;
         n += 1;
-        let stored = store_number(body, n, columns, words);
-        if !stored {
-            return false;
-        }
-        if let Next::Last = next {
-            if n != count {
-                return false;
+        store_number(field.body, n, &header.columns, &mut words)?;
+        rest = field.rest;
+        if field.last {
+            if n != header.count {
+                return None;
             }
-            *rest = u;
-            return true;
+            return Some(Kernel { words, rest });
         }
-        t = u;
     }
 }
 
-// All records after the header, which is record 1, up to the end of the sheet: their numbers go to the start of words.
-pub fn read_kernels(s: &[u8], columns: &[usize; 4], count: usize, words: &mut [u32]) -> Kernels
-    requires { (length words.old ≡ table_most) × Within columns.now count }
-    ensures { Reads s.now columns.now count result words.new }
+// All records after the header, which is record 1, up to the end of the sheet: their numbers go to the start of words; the answer is how many there
+// are, or the number of the first that is not as due.
+pub fn read_kernels(header: Header<'_>, words: &mut [u32]) -> Result<usize, Refusal>
+    requires { length words.old ≡ table_most }
+    ensures { Reads header.entry.rest.now header.entry.columns header.entry.count result words.new }
 {
-    let mut t = s;
+    let mut rest = header.rest;
     let mut n: usize = 0;
-    while t.len() > 0 {
+    while !rest.is_empty() {
         let record = (n + 2) as u32;
         if n == TASK_MOST {
-            return Kernels::Wrong(record);
+            return Err(Refusal::BadRecord(record));
         }
-        let mut u = t;
-        let taken = read_kernel(t, columns, count, &mut words[4 * n..4 * n + 4], &mut u);
-        if !taken {
-            return Kernels::Wrong(record);
-        }
-        t = u;
+        let Some(kernel) = read_kernel(rest, header) else {
+            return Err(Refusal::BadRecord(record));
+        };
+        words[4 * n..4 * n + 4].copy_from_slice(&kernel.words);
+        rest = kernel.rest;
         n += 1;
     }
-    Kernels::Whole(n)
+    Ok(n)
 }

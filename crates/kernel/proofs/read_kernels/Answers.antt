@@ -1,41 +1,44 @@
 -- `kernel::read_kernels` meets its contract: each turn is a step of `read_tasks`, whose words go behind those of the records before.
-use Rattle.std.proofs.Common.{◌+◌, ◌-◌, ◌*◌, sym, ◌∙◌, arith}
+use Rattle.std.proofs.Common.{◌≡◌, ◌+◌, ◌-◌, ◌*◌, ◌<◌, length, sym, ◌∙◌, arith}
 use Rattle.std.proofs.lemmas.Slice.{take-put_mid}
+use Rattle.std.proofs.lemmas.Grind.{common_steps}
 use Rattle.rules.proofs.RowSteps.{ahead_none, tasks_done, tasks_full, tasks_wrong, tasks_more}
+use Rattle.kernel.proofs.Outcomes.{all_read, stops}
 use Rattle.kernel.proofs.read_kernels.Goals as goal
 
-pub loop-t-init : goal.loop-t-init
-loop-t-init c = (omega arith, c.requires.0, ahead_none _)
+pub loop-rest-init : goal.loop-rest-init
+loop-rest-init c = (omega arith, c.requires, ahead_none _)
 
 -- a record too many
 pub returns-then-n-eq-TASK_MOST : goal.returns-then-n-eq-TASK_MOST
 returns-then-n-eq-TASK_MOST c =
-    let so_far = c.loop-t.invariant in
-    record { long = so_far.1; counted = tt; says = sym (tasks_full _ _ _ _ _ (omega arith) (omega arith)) ∙ so_far.2 }
+    let so_far = c.loop-rest.invariant in
+    let some : 0 < length c.loop-rest.rest.now = grind (arith, common_steps) in
+    stops so_far.1 (sym so_far.2 ∙ tasks_full _ _ _ _ _ (omega arith) (omega arith))
 
 -- a record is not as due
-pub returns-then-not-taken : goal.returns-then-not-taken
-returns-then-not-taken c =
-    let so_far = c.loop-t.invariant in
-    record {
-      long = omega arith;
-      counted = tt;
-      says = sym (tasks_wrong _ _ _ _ _ (omega arith) (omega arith) (sym c.if-not-taken.ensures.says)) ∙ so_far.2;
-    }
+pub returns-in_default : goal.returns-in_default
+returns-in_default c =
+    let so_far = c.loop-rest.invariant in
+    let some : 0 < length c.loop-rest.rest.now = grind (arith, common_steps) in
+    stops so_far.1 (sym so_far.2 ∙ tasks_wrong _ _ _ _ _ (omega arith) (omega arith) c.in_default.ensures)
 
-pub loop-t-preserved : goal.loop-t-preserved
-loop-t-preserved c =
-    let so_far = c.loop-t.invariant in
-    let kernel = c.read_kernel-taken in
-    let n = c.loop-t.n in (
+pub loop-rest-preserved : goal.loop-rest-preserved
+loop-rest-preserved c =
+    let so_far = c.loop-rest.invariant in
+    let some : 0 < length c.loop-rest.rest.now = grind (arith, common_steps) in
+    let n = c.loop-rest.n in
+    let words = c.copy_from_slice.new.self in
+    let four : length words ≡ 4 = omega arith in (
       omega arith,
-      omega arith,
-      rw (take-put_mid (4 * n) (4 * n + 4 - 4 * n) c.loop-t.words kernel.new.words (4 * (n + 1)) (omega (arith, kernel.ensures.four)) (omega arith))
-          (tasks_more _ _ _ _ _ (omega arith) (omega arith) _ _ (sym c.if-not-taken.ensures.says)) ∙ so_far.2,
+      omega (arith, four),
+      rw (take-put_mid (4 * n) (4 * n + 4 - 4 * n) c.loop-rest.words words (4 * (n + 1)) (omega (arith, four)) (omega arith), c.copy_from_slice.ensures.after)
+          (tasks_more _ _ _ _ _ (omega arith) (omega arith) _ _ c.in-Some.ensures) ∙ so_far.2,
     )
 
 -- the end of the sheet
 pub returns : goal.returns
 returns c =
-    let so_far = c.loop-t.invariant in
-    record { long = so_far.1; counted = so_far.0; says = sym (tasks_done _ _ _ _ _ (omega arith)) ∙ so_far.2 }
+    let so_far = c.loop-rest.invariant in
+    let none : length c.loop-rest.rest.now ≡ 0 = grind (arith, common_steps) in
+    all_read so_far.0 so_far.1 (sym so_far.2 ∙ tasks_done _ _ _ _ _ none)

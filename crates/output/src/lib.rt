@@ -5,7 +5,8 @@ ghost use Rattle.std.specs.Prelude.{◌≤◌, length};
 ghost use Rattle.rules.specs.Numbers.{input_most};
 ghost use Rattle.output.specs.Output.{output_most, Outputs};
 
-use rules::{INPUT_MOST, ReportAnswer};
+use print::Page;
+use rules::INPUT_MOST;
 
 // The most bytes that are printed: a set takes 24 bytes of the input at least, so there are at most 1,366.
 pub const OUTPUT_MOST: usize = 1366 * report::LINES_MOST;
@@ -16,20 +17,18 @@ fn put_sets(input: &[u8], out: &mut [u8]) -> usize
     ensures { Outputs input.now out.old result out.new }
 {
     let mut number: u32 = 1;
-    let mut left = input.len();
+    let mut text = input;
     let mut at: usize = 0;
     loop {
-        let from = input.len() - left;
-        let answer = report::report(number, &input[from..], &mut out[at..]);
         // There is room for every set's lines, so that no report is refused.
-        let ReportAnswer::Reported { length, left: rest } = answer else {
+        let Ok(told) = report::report(number, text, &mut out[at..]) else {
             return at;
         };
-        at += length as usize;
-        if rest == 0 {
+        at += told.length as usize;
+        if told.left == 0 {
             return at;
         }
-        left = rest;
+        text = &text[text.len() - told.left..];
         number += 1;
     }
 }
@@ -40,7 +39,9 @@ pub fn output(input: &[u8], out: &mut [u8]) -> usize
     ensures { Outputs input.now out.old result out.new }
 {
     if input.len() > INPUT_MOST {
-        return print::put_bytes(out, 0, b"toolong\n");
+        let mut page = Page::new(out);
+        page.put_bytes(b"toolong\n");
+        return page.at;
     }
     put_sets(input, out)
 }

@@ -1,121 +1,66 @@
--- One turn of the run over the sets: what stands at the start of the lent bytes, with the texts of the sets still to draw, is the texts of all.
-use mathlib.Core.Path.{◌≡◌, refl, sym, ap, ap₂, ◌∙◌}
-use Prim.Native.Nat.{ℕ, suc, ◌+◌, ◌-◌, ◌*◌, ◌≤◌, ◌<◌}
+-- The run over the sets: what one turn puts behind the texts that stand at the start of the lent bytes makes the texts of one set more.
+use mathlib.Core.Path.{◌≡◌, refl, sym, ap, ◌∙◌}
+use Prim.Native.Nat.{ℕ, ◌+◌, ◌-◌, ◌*◌, ◌≤◌}
 use native.Mathlib.Omega.{arith}
-use mathlib.Core.List.{List, [], ◌++◌, append_assoc, append-nil}
-use lib.ListN.{length, take, drop, length-append, length-drop}
+use mathlib.Core.List.{List, ◌++◌, append_assoc, append-nil}
+use lib.ListN.{length, take, drop, length-append}
 use lib.Seq.{drop-drop}
 use Rattle.rules.specs.Text.{write_set}
-use Rattle.rules.specs.Generator.{words_drawn, state_after_sets, generated}
+use Rattle.rules.specs.Generator.{words_drawn, state_after_set, state_after_sets, generated}
 use Rattle.rules.proofs.Slices.{lent_end, end_back}
-use Rattle.rules.proofs.DrawnTexts.{text_length, sets_none, sets_more, texts_none, texts_more}
-use Rattle.texts.specs.Texts.{text_most, PutsSet, PutsSets}
+use Rattle.rules.proofs.DrawnTexts.{text_length, sets_none, sets_more, sets_after, texts_none, texts_more, in_pieces}
+use Rattle.texts.specs.Texts.{text_most, Puts, PutsSet, PutsSets}
 
--- one text has 264 bytes at most
-pub size_most : (s number : ℕ) {size after : ℕ} {out exit : List ℕ} → PutsSet s number out size after exit → size ≤ text_most
-size_most s number puts = omega (arith, puts.says, text_length number s)
+-- one set more
+state_more : (i s : ℕ) → state_after_set (state_after_sets i s) ≡ state_after_sets (i + 1) s
+state_more i s = sym (sets_more 0 (state_after_sets i s) ∙ sets_none _) ∙ sets_after i 1 s
 
--- the texts of the first i sets stand at the start of out
-pub record SoFar (s₀ number count : ℕ) (old : List ℕ) (s : ℕ) (out : List ℕ) (at i : ℕ) : Type 0 where
-  pub texts : List ℕ
-  pub many : length texts ≡ at
-  pub stands : out ≡ texts ++ drop at old
-  pub same : length out ≡ length old
-  -- with those of the sets that are left they make up all
-  pub due : texts ++ generated (count - i) (number + i) s ≡ generated count number s₀
-  pub moved : state_after_sets (count - i) s ≡ state_after_sets count s₀
-  -- and each has 264 bytes at most
-  pub within : i ≤ count
-  pub put : at ≤ text_most * i
+texts_last : (i number s : ℕ) → generated i number s ++ write_set (words_drawn (number + i) (state_after_sets i s)) ≡ generated (i + 1) number s
+texts_last i number s =
+    sym (in_pieces i 1 number s ∙ ap (λ (l : List ℕ). generated i number s ++ l) (rw (texts_more, texts_none, append-nil) refl))
 
-module _ (s₀ number count : ℕ) (old : List ℕ) where
+-- a text that is put behind another
+puts_behind : {t u old out exit : List ℕ} {σ s τ at size after : ℕ} → Puts t σ old at s out → Puts u τ (take (length out - at) (drop at out)) size after exit
+    → Puts (t ++ u) τ old (at + size) after (take at out ++ (exit ++ drop (length out - at) (drop at out)))
+puts_behind {t} {u} {old} {out} {exit} {at = at} {size = size} p q =
+    let rest : List ℕ = drop (length t) old in
+    let behind : Puts u _ rest size _ exit = rw (lent_end t rest out at (sym p.says) p.leaves) at q in
+    record {
+      says = omega (arith, p.says, q.says, length-append t u);
+      moves = q.moves;
+      leaves =
+          end_back t rest out at (sym p.says) p.leaves exit
+          ∙ ap (λ (l : List ℕ). t ++ l) (behind.leaves ∙ ap (λ (l : List ℕ). u ++ l) (drop-drop (length u) (length t) old))
+          ∙ sym (append_assoc t u (drop (length t + length u) old))
+          ∙ ap (λ (n : ℕ). (t ++ u) ++ drop n old) (sym (length-append t u));
+    }
+
+-- the texts of the first i sets stand at the start of out, and each has 264 bytes at most
+pub record SoFar (s₀ number : ℕ) (old : List ℕ) (s : ℕ) (out : List ℕ) (at i : ℕ) : Type 0 where
+  pub puts : PutsSets s₀ number i old at s out
+  pub within : at ≤ text_most * i
+
+module _ (s₀ number : ℕ) (old : List ℕ) where
   -- no set is drawn
-  pub at_first : SoFar s₀ number count old s₀ old 0 0
-  at_first =
-      let k : count - 0 ≡ count = omega arith in
-      let n : number + 0 ≡ number = omega arith in
-      record {
-        texts = [];
-        many = refl;
-        stands = refl;
-        same = refl;
-        due = rw (k, n);
-        moved = rw k;
-        within = omega arith;
-        put = omega arith;
-      }
+  pub at_first : SoFar s₀ number old s₀ old 0 0
+  at_first = record { puts = record { says = rw texts_none refl; moves = sym (sets_none s₀); leaves = rw texts_none refl }; within = omega arith }
 
-  module _ {s : ℕ} {out : List ℕ} {at i : ℕ} (so_far : SoFar s₀ number count old s out at i) (room : text_most * count ≤ length old) where
-    -- there is room for one text more
-    pub fits : i < count → at + text_most ≤ length out
-    fits h = omega (arith, so_far.put, so_far.same)
+  module _ {s at i : ℕ} {out : List ℕ} (so_far : SoFar s₀ number old s out at i) where
+    -- the next set's text is put behind the others
+    next : {size after : ℕ} {exit : List ℕ} → PutsSet s (number + i) (take (length out - at) (drop at out)) size after exit
+        → SoFar s₀ number old after (take at out ++ (exit ++ drop (length out - at) (drop at out))) (at + size) (i + 1)
+    next set =
+        let state : state_after_set s ≡ state_after_sets (i + 1) s₀ = ap state_after_set so_far.puts.moves ∙ state_more i s₀ in
+        let texts : generated i number s₀ ++ write_set (words_drawn (number + i) s) ≡ generated (i + 1) number s₀ =
+        ap (λ (σ : ℕ). generated i number s₀ ++ write_set (words_drawn (number + i) σ)) so_far.puts.moves ∙ texts_last i number s₀
+        in
+        record { puts = rw (texts, state) at (puts_behind so_far.puts set); within = omega (arith, so_far.within, set.says, text_length (number + i) s) }
 
-    -- it is put after the others
-    module _ (h : i < count) {size after : ℕ} {exit : List ℕ} (puts : PutsSet s (number + i) (take (length out - at) (drop at out)) size after exit) where
-      abbrev text : List ℕ
-      text = write_set (words_drawn (number + i) s)
-
-      one_put : PutsSet s (number + i) (drop at old) size after exit
-      one_put = rw (lent_end so_far.texts (drop at old) out at so_far.many so_far.stands) at puts
-
-      abbrev texts : List ℕ
-      texts = so_far.texts ++ text
-
-      many : length texts ≡ at + size
-      many = omega (arith, length-append so_far.texts text, so_far.many, puts.says)
-
-      stands : take at out ++ (exit ++ drop (length out - at) (drop at out)) ≡ texts ++ drop (at + size) old
-      stands =
-          end_back so_far.texts (drop at old) out at so_far.many so_far.stands exit
-          ∙ ap (λ (l : List ℕ). so_far.texts ++ l) one_put.leaves
-          ∙ ap (λ (k : ℕ). so_far.texts ++ (text ++ drop k (drop at old))) (sym puts.says)
-          ∙ ap (λ (l : List ℕ). so_far.texts ++ (text ++ l)) (drop-drop size at old)
-          ∙ sym (append_assoc so_far.texts text (drop (at + size) old))
-
-      left : count - i ≡ suc (count - (i + 1))
-      left = omega arith
-
-      next : SoFar s₀ number count old after (take at out ++ (exit ++ drop (length out - at) (drop at out))) (at + size) (i + 1)
-      next =
-          let k : number + (i + 1) ≡ suc (number + i) = omega arith in
-          record {
-            texts = texts;
-            many = many;
-            stands = stands;
-            same = omega (arith, ap length stands, length-append texts (drop (at + size) old), length-drop (at + size) old, many, size_most s (number + i) puts, fits h, so_far.same);
-            due =
-                append_assoc so_far.texts text (generated (count - (i + 1)) (number + (i + 1)) after)
-                ∙ ap (λ (l : List ℕ). so_far.texts ++ l)
-                (ap₂ (λ (n σ : ℕ). text ++ generated (count - (i + 1)) n σ) k puts.moves
-                ∙ sym (texts_more (count - (i + 1)) (number + i) s)
-                ∙ ap (λ (n : ℕ). generated n (number + i) s) (sym left))
-                ∙ so_far.due;
-            moved =
-                ap (state_after_sets (count - (i + 1))) puts.moves
-                ∙ sym (sets_more (count - (i + 1)) s)
-                ∙ ap (λ (n : ℕ). state_after_sets n s) (sym left)
-                ∙ so_far.moved;
-            within = omega arith;
-            put = omega (arith, so_far.put, size_most s (number + i) puts);
-          }
-
-    -- so where the set has the next number and its text goes to the next place
-    pub at_next : i < count → {k from size after : ℕ} {exit : List ℕ} → PutsSet s k (take (length out - from) (drop from out)) size after exit
-        → k ≡ number + i → from ≡ at → SoFar s₀ number count old after (take from out ++ (exit ++ drop (length out - from) (drop from out))) (at + size) (i + 1)
-    at_next h puts e f = rw f (next h (rw (e, f) at puts))
+    -- so where it is put at the next place
+    pub at_next : {k from size after : ℕ} {exit : List ℕ} → PutsSet s k (take (length out - from) (drop from out)) size after exit → k ≡ number + i → from ≡ at
+        → SoFar s₀ number old after (take from out ++ (exit ++ drop (length out - from) (drop from out))) (at + size) (i + 1)
+    at_next set e f = rw f (next (rw (e, f) at set))
 
     -- no set is left
-    pub at_last : count ≤ i → PutsSets s₀ number count old at s out
-    at_last h =
-        let z : count - i ≡ 0 = omega arith in
-        let all : so_far.texts ≡ generated count number s₀ =
-        sym (append-nil so_far.texts)
-        ∙ ap (λ (l : List ℕ). so_far.texts ++ l) (sym (texts_none (number + i) s) ∙ ap (λ (n : ℕ). generated n (number + i) s) (sym z))
-        ∙ so_far.due
-        in
-        let n : at ≡ length (generated count number s₀) = sym so_far.many ∙ ap length all in
-        record {
-          says = n;
-          moves = sym (sets_none s) ∙ ap (λ (n : ℕ). state_after_sets n s) (sym z) ∙ so_far.moved;
-          leaves = so_far.stands ∙ ap₂ (λ (l : List ℕ) (k : ℕ). l ++ drop k old) all n;
-        }
+    pub at_last : {count : ℕ} → i ≡ count → PutsSets s₀ number count old at s out
+    at_last e = rw e at so_far.puts

@@ -4,10 +4,10 @@ use Rattle.texts.proofs.Turns.{at_first, at_next, at_last}
 use Rattle.texts.proofs.put_sets.Goals as goal
 
 pub loop-i-init : goal.loop-i-init
-loop-i-init c = at_first _ _ _ _
+loop-i-init c = at_first _ _ _
 
 pub loop-i-preserved : goal.loop-i-preserved
-loop-i-preserved c = at_next _ _ _ _ c.loop-i.invariant c.requires.1 (omega arith) c.put_set-at.ensures (omega arith) (omega arith)
+loop-i-preserved c = at_next _ _ _ c.loop-i.invariant c.put_set-at.ensures (omega arith) (omega arith)
 
 pub returns : goal.returns
-returns c = at_last _ _ _ _ c.loop-i.invariant c.requires.1 (omega arith)
+returns c = at_last _ _ _ c.loop-i.invariant (omega arith)

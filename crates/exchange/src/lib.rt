@@ -35,6 +35,7 @@ fn write_table(source: Source, table: &[u32], out: &mut [u8]) -> Result<u32, Ref
     }
 }
 
+// Kept: (d) `as usize` of a u32 here and in exchange: std has no From<u32> for usize, and try_from would leave an error to handle.
 // What is made of an input that is not too long goes to the start of out; or the input or its table is refused.
 fn make(source: Source, input: &[u8], out: &mut [u8]) -> Result<u32, Refusal>
     requires { made_most ≤ length out.old }

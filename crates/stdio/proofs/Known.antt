@@ -1,7 +1,7 @@
 -- Bytes that are known: what one more read or write adds to those of the calls before, and which beginning was written.
 use Rattle.std.proofs.Common.{◌≡◌, ℕ, ◌+◌, ◌-◌, ◌≤◌, List, ◌++◌, Option, Result, Ok, Err, length, take, drop, sym, ap, subst, min, ◌∙◌, arith, length-take-le}
-use Rattle.std.specs.Io.KnownBytes.{Appends}
-use Rattle.std.proofs.KnownBytes.{Appends-trans}
+use Rattle.std.specs.Io.KnownBytes.{Appends, Consumes}
+use Rattle.std.proofs.KnownBytes.{Appends-trans, Consumes-trans}
 use Rattle.stdio.specs.Input.{TookBeginning, Wrote}
 use Rattle.stdio.specs.declared.OutputError.{OutputError}
 use Rattle.stdio.specs.declared.OutputError.TheVariants.{Cut, Unread}
@@ -11,12 +11,17 @@ use Rattle.std.proofs.lemmas.List.{take_min, take_rest}
 use lib.Seq.{take-add, take-append-le}
 
 -- what was read before stays in front of what this read put at `at`
-pub read_more : (at k n : ℕ) (buf part : List ℕ) → at ≤ length buf → n ≤ length part → take at buf ++ take n part ≡ take (at + n) (put_mid at k buf part)
+read_more : (at k n : ℕ) (buf part : List ℕ) → at ≤ length buf → n ≤ length part → take at buf ++ take n part ≡ take (at + n) (put_mid at k buf part)
 read_more at k n buf part within fits =
     let after = post_of at k buf in
     ap (λ l. take at buf ++ l) (sym (take-append-le n part after fits))
     ∙ sym (take-append-add (take at buf) (part ++ after) n)
     ∙ ap (λ m. take (m + n) (put_mid at k buf part)) (length-take-le at buf within)
+
+-- the bytes of this read follow those that were read before
+pub read_adds : (a b c : Option (List ℕ)) (at k n : ℕ) (buf part : List ℕ) → at ≤ length buf → n ≤ length part → Consumes a b (take at buf) → Consumes b c (take n part)
+    → Consumes a c (take (at + n) (put_mid at k buf part))
+read_adds a b c at k n buf part within fits before more = subst (Consumes a c) (read_more at k n buf part within fits) (Consumes-trans a b c _ _ before more)
 
 -- the bytes that this write took follow those that were written before
 pub written_more : (a b c : Option (List ℕ)) (bytes : List ℕ) (at n : ℕ) → Appends a b (take at bytes)

@@ -55,6 +55,7 @@ impl Tries {
 
 // Kept: (d) read_input and write_output stay two loops: one over a closure would have to say by its steps what each stream's contract says at once.
 // Standard input is read to its end, however many reads that takes. The buffer is longer than the longest input, so one that fills it is too long.
+#[tactic(auto, using(crate::proofs::Known::read_adds))]
 pub fn read_input<R: Read>(input: &mut R, buf: &mut [u8]) -> Result<usize, InputError>
     requires { input_most < length buf.old }
     ensures within { Within result (length buf.new) }
@@ -77,6 +78,7 @@ pub fn read_input<R: Read>(input: &mut R, buf: &mut [u8]) -> Result<usize, Input
 }
 
 // The bytes are written to standard output, however many writes that takes.
+#[tactic(auto, using(crate::proofs::Known::written_more))]
 pub fn write_output<W: Write>(output: &mut W, bytes: &[u8]) -> Result<(), OutputError>
     ensures { Wrote (W.contents output.old) (W.contents output.new) result bytes.now }
 {
@@ -149,6 +151,7 @@ pub fn input_or_tell<'a, R: Read, E: Write>(
 }
 
 // The bytes are printed on standard output; where they are not written whole, that is told. The answer is the program's exit status.
+#[tactic(auto, using(crate::proofs::Known::beginning_written))]
 pub fn print_bytes<W: Write, E: Write>(output: &mut W, error: &mut E, bytes: &[u8]) -> ExitCode
     ensures { TookBeginning (W.contents output.old) (W.contents output.new) bytes.now }
 {

@@ -3,32 +3,18 @@
 
 ghost use Rattle.std.specs.Prelude.{◌≤◌, ◌<◌, length};
 ghost use Rattle.rules.specs.Numbers.{table_most};
-ghost use Rattle.rules.specs.Sheet.{name_of};
 ghost use Rattle.print.specs.Place.{Puts};
 ghost use Rattle.print.specs.Pages.{Fits, Adds};
 ghost use Rattle.wording.specs.Wording.{place, bad_record, wrong_in, sentence, too_long, InTable};
 
 use print::Page;
-use rules::{DEADLINE, EXECUTION, PERIOD, RELEASE, Refusal};
+use rules::Refusal;
 
 // Where something is wrong: in a sheet, or in a text.
 #[derive(Clone, Copy)]
 pub enum Source {
     Sheet,
     Text,
-}
-
-// The name of a column is put on a page.
-fn put_column(page: &mut Page, which: u32)
-    requires { (which < 4) × Fits page.old (name_of which) }
-    ensures { Adds page.old (name_of which) page.new }
-{
-    match which {
-        0 => page.put_bytes(&EXECUTION),
-        1 => page.put_bytes(&DEADLINE),
-        2 => page.put_bytes(&PERIOD),
-        _ => page.put_bytes(&RELEASE),
-    }
 }
 
 // Where word i of the table stands is put on a page.
@@ -39,7 +25,7 @@ fn put_place(page: &mut Page, source: Source, i: u32)
     match source {
         Source::Sheet => {
             page.put_phrase(b"record ", i / 4 + 2, b": ");
-            put_column(page, i % 4);
+            page.put_bytes(header::column_name(i as usize % 4));
         }
         Source::Text => {
             page.put_bytes(b"line ");
@@ -103,7 +89,7 @@ pub fn put_sentence(out: &mut [u8], source: Source, refusal: Refusal) -> usize
     requires { InTable refusal × (length (sentence source refusal) ≤ length out.old) }
     ensures { Puts out.old 0 (sentence source refusal) result out.new }
 {
-    let mut page = Page { out, at: 0 };
+    let mut page = Page::new(out);
     put_refused(&mut page, source, refusal);
     page.at
 }
@@ -113,7 +99,7 @@ pub fn put_too_long(out: &mut [u8]) -> usize
     requires { length too_long ≤ length out.old }
     ensures { Puts out.old 0 too_long result out.new }
 {
-    let mut page = Page { out, at: 0 };
+    let mut page = Page::new(out);
     page.put_bytes(b"tilecheck: the input has more than 32768 bytes\n");
     page.at
 }

@@ -2,3 +2,4 @@
 pub mod Putting
 pub mod Parts
 pub mod Pages
+mod Widths

@@ -105,17 +105,11 @@ impl<'a> Page<'a> {
     }
 }
 
-// How many digits a number has.
+// How many digits a number has; 0 has as many as 1.
 pub fn width(n: u32) -> usize
     ensures { (result ≡ length (digits n)) × (result ≤ 10) }
 {
-    let mut v = n;
-    let mut w: usize = 1;
-    while v > 9 {
-        v = v / 10;
-        w += 1;
-    }
-    w
+    n.max(1).ilog10() as usize + 1
 }
 
 // A byte is put at a place.

@@ -22,6 +22,13 @@ use Rattle.pattern.specs.OneLate.{OneLate}
 use Rattle.std.specs.Prelude.{Option, Some, None, Result, Ok, Err}
 use Rattle.rules.specs.declared.Timing.{Timing}
 
+-- a verdict that is no "misses"
+pub no_misses : (w : List ℕ) (v : Verdict) → ((L : ℕ) (b : Option ℕ) (over : ℕ) → v ≡ Verdict.Misses L b over → ⊥) → v ≡ verdict (tasks_of w)
+    → is_misses (verdict (tasks_of w)) ≡ false
+no_misses w (Verdict.Misses L b over) n e = absurd (n L b over refl)
+no_misses w (Verdict.Meets σ) n e = sym (ap is_misses e)
+no_misses w Verdict.TooFar n e = sym (ap is_misses e)
+
 module _ (w out : List ℕ) where
   -- the plan of the verdict's length and blocker gives the jobs that the verdict names
   pub shown : {answer : Result Timing Refusal} {exit : List ℕ} (L : ℕ) (b : Option ℕ) (over : ℕ) → table_refusal w ≡ None → verdict (tasks_of w) ≡ Verdict.Misses L b over

@@ -8,7 +8,6 @@ ghost use Rattle.header.specs.Headers.{Notes, AllOf, Heads};
 mod found;
 
 pub use found::Header;
-
 use rules::{DEADLINE, EXECUTION, PERIOD, RELEASE};
 
 // The name of a column, by the place of its word in a task.
@@ -69,7 +68,11 @@ pub fn read_header<'a>(s: &'a [u8]) -> Option<Header<'a>>
         rest = field.rest;
         if field.last {
             let columns = all_named(&columns)?;
-            return Some(Header { columns, count, rest });
+            return Some(Header {
+                columns,
+                count,
+                rest,
+            });
         }
     }
 }

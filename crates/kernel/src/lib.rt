@@ -30,7 +30,12 @@ fn field_number(body: &[u8]) -> Option<u32>
 }
 
 // The number in a column goes to each word whose column it is, if it is as due there.
-fn store_number(body: &[u8], column: usize, columns: &[usize; 4], words: &mut [u32; 4]) -> Option<()>
+fn store_number(
+    body: &[u8],
+    column: usize,
+    columns: &[usize; 4],
+    words: &mut [u32; 4],
+) -> Option<()>
     ensures { Stores body.now column columns.now words.old result words.new }
 {
     for k in 0..4 {
@@ -70,6 +75,7 @@ pub fn read_kernels(header: Header<'_>, words: &mut [u32]) -> Result<usize, Refu
 {
     let mut rest = header.rest;
     let mut n: usize = 0;
+    // Kept: this loop walks the bytes that are left; a `for` over the tasks' places would ask twice whether the sheet has ended
     while !rest.is_empty() {
         let record = (n + 2) as u32;
         if n == TASK_MOST {

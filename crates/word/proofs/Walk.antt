@@ -10,15 +10,17 @@ use mathlib.Core.Bool.{Bool, true, false}
 use lib.ListN.{length, drop, get_or, drop_of_length-le}
 use lib.Seq.{drop-cons}
 use borrow.Author.Tests.{le-leb, lt-leb}
-use Rattle.std.specs.Char.{is_ascii_digit}
+use Rattle.std.specs.Char.{digit_value, NotDecimalDigitIn, IsDigitOf}
 use Rattle.rules.specs.Text.{digit}
-use Rattle.rules.proofs.ReadSteps.{empty, first_of}
+use Rattle.rules.proofs.ReadSteps.{empty, first_of, below_digits, above_digits, a_digit}
 use Rattle.word.specs.Word.{value_from, judged, number_in}
 
 -- std's digits are the rules'
-pub as_std : (b : ℕ) {d v : Bool} → d ≡ is_ascii_digit b → d ≡ v → digit b ≡ v
-unfolding digit
-as_std b e f = sym e ∙ f
+pub no_digit : (b : ℕ) {k : ℕ} → k ≡ b → NotDecimalDigitIn 10 k → digit b ≡ false
+no_digit b e h = grind (arith, below_digits b, above_digits b)
+
+pub a_digit_read : (b : ℕ) {k d : ℕ} → k ≡ b → (digit_value k < 10) × (d ≡ digit_value k) → IsDigitOf k d → (digit b ≡ true) × (d ≡ b - 48)
+a_digit_read b {k} {d} e v h = (a_digit b (grind arith) (grind arith), grind arith)
 
 -- a value above the greatest stays wrong, whatever follows
 great : (most v : ℕ) (s : List ℕ) → most < v → judged most (value_from v s) ≡ None

@@ -13,11 +13,9 @@ pub fn number_in(word: &[u8], most: u32) -> Option<u32>
     }
     let most = u64::from(most);
     let mut value: u64 = 0;
-    for b in word {
-        if !b.is_ascii_digit() {
-            return None;
-        }
-        value = value * 10 + u64::from(*b - b'0');
+    for &b in word {
+        let digit = char::from(b).to_digit(10)?;
+        value = value * 10 + u64::from(digit);
         if value > most {
             return None;
         }

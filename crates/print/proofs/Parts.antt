@@ -3,8 +3,7 @@ use mathlib.Core.Path.{◌≡◌, sym, ap, ◌∙◌}
 use Prim.Native.Nat.{ℕ, ◌+◌, ◌≤◌}
 use native.Mathlib.Omega.{arith}
 use mathlib.Core.List.{List, [], ◌++◌}
-use lib.ListN.{length, take, drop, length-append}
-use lib.Seq.{take_at}
+use lib.ListN.{length, drop, length-append}
 use Rattle.print.specs.Place.{put, Puts}
 use Rattle.print.proofs.Putting.{put_nil, put_start, put_after, then}
 
@@ -46,12 +45,3 @@ module _ {whole out rest : List ℕ} {at : ℕ} (a b : List ℕ) (remains : Rema
 -- at the end nothing
 pub none_remains : {whole out rest : List ℕ} {at : ℕ} → Remains whole out at rest → rest ≡ [] → out ≡ whole
 none_remains {whole} {out} {rest} {at} remains nothing = sym (put_nil out at) ∙ ap (put out at) (sym nothing) ∙ remains.makes
-
--- bytes put at the start of a page, and from there at the start of another list
-pub by_page : {blank page old exit : List ℕ} {size last : ℕ} (vs : List ℕ) → Puts blank 0 vs size page → Puts old 0 (take size page) last exit
-    → exit ≡ vs ++ drop (length vs) old
-by_page {blank} {page} {old} {exit} {size} {last} vs p s =
-    let e : length vs ≡ size = omega (arith, p.says) in
-    let t : take size page ≡ vs = ap (take size) p.leaves ∙ take_at vs (drop (0 + length vs) blank) size e in
-    let z : 0 + length vs ≡ length vs = omega arith in
-    s.leaves ∙ ap (put old 0) t ∙ ap (λ (n : ℕ). vs ++ drop n old) z

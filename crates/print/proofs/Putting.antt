@@ -1,13 +1,11 @@
 -- Bytes put at a place of a list: one by one, one after another, a number's digits from the last, a line; and that a call has one outcome.
-use mathlib.Core.Path.{◌≡◌, sym, ap, ap₂, ◌∙◌, subst}
+use mathlib.Core.Path.{◌≡◌, sym, ap, ap₂, ◌∙◌}
 use Prim.Native.Nat.{ℕ, zero, suc, ◌+◌, ◌-◌, ◌/◌, ◌%◌, ◌≤◌, ◌<◌}
 use native.Mathlib.Omega.{arith}
 use mathlib.Core.List.{List, [], ◌∷◌, ◌++◌, append_assoc}
 use lib.ListN.{length, take, drop, set, length-append, length-drop, take-append-drop}
 use lib.Seq.{set_split, take_at, drop_at, drop-append-add, drop-drop, length-take-le, take-set-le}
-use Rattle.rules.specs.Text.{line}
 use Rattle.rules.proofs.Digits.{lasts, lasts_none, lasts_more, lasts_length}
-use Rattle.rules.proofs.WriteSteps.{line_is, line_length}
 use Rattle.print.specs.Place.{put, Puts, PutsOne}
 
 -- one outcome
@@ -90,12 +88,3 @@ put_digit_at l at e v p h =
     let i : e - 1 ≡ at + (e - at - 1) = omega arith in
     let k : e - 1 - at ≡ e - at - 1 = omega arith in
     rw (k, i) (put_digit l at (e - at) v (omega arith) (omega arith))
-
--- a line, by its three parts
-pub line_put : (l : List ℕ) (at : ℕ) (key value : List ℕ) {m k j : List ℕ} {r q z : ℕ} → at + length (line key value) ≤ length l
-    → Puts l at key r m → Puts m r value q k → Puts k q (10 ∷ []) z j → Puts l at (line key value) z j
-line_put l at key value {m} {k} {j} {r} {q} {z} h a b d =
-    let e = line_length key value in
-    let f = then l at key (omega arith) value a b in
-    let g = then l at (key ++ value) (omega (arith, length-append key value)) (10 ∷ []) f d in
-    subst (λ (x : List ℕ). Puts l at x z j) (append_assoc key value (10 ∷ []) ∙ sym (line_is key value)) g

@@ -6,4 +6,4 @@ use Rattle.print.proofs.width.Goals as goal
 pub returns : goal.returns
 returns c =
     let log = c.ilog10.ensures in
-    (width_is _ _ _ (omega arith) c.max.ensures log.power_le log.next_power_gt, omega arith)
+    (width_is c.ilog10.result c.args.n c.max.result (omega arith) (omega arith) (omega (arith, log.power_le)) (omega (arith, log.next_power_gt)), omega arith)

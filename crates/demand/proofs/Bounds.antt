@@ -1,19 +1,29 @@
--- That one task's part of a sum fits, and that a table's tasks are bounded so.
+-- That one task's part of a sum fits, and a quotient rounded up.
 use mathlib.Core.Path.{◌≡◌}
-use Prim.Native.Nat.{ℕ, ◌*◌, ◌^◌, ◌≤◌, ◌<◌}
-use native.Mathlib.Nat.{mul-le-mul}
+use mathlib.Core.Logic.{⊎_elim}
+use Prim.Native.Nat.{ℕ, ◌+◌, ◌-◌, ◌*◌, ◌/◌, ◌%◌, ◌^◌, ◌≤◌, ◌<◌}
+use native.Mathlib.Nat.{mul-le-mul, add-mul}
 use native.Mathlib.Omega.{arith}
-use mathlib.Core.List.{List}
+use borrow.Author.Tests.{ltb-true, leb-true}
+use Rattle.std.specs.Int.{div_ceil}
+use Rattle.std.proofs.lemmas.Nat.{div-add-mod', div-mul-add}
 use Rattle.rules.specs.Numbers.{word_most}
-use Rattle.rules.specs.declared.Task.{Task}
-use Rattle.rules.specs.Table.{task_in, task_count, ValidTable}
-use Rattle.rules.proofs.Tables.{task_sound, task_c_most}
-use Rattle.demand.specs.Parts.{Bounded}
+use Rattle.rules.proofs.Booleans.{lt_or_ge}
 
 -- C times a number of at most 33 bits
 pub times_small : (c n : ℕ) → c ≤ word_most → n ≤ 2 ^ 33 → c * n ≤ 2 ^ 49
 times_small c n h k = omega (arith, mul-le-mul {n₁ = c} {m₁ = n} {n₂ = word_most} {m₂ = 2 ^ 33} h k)
 
--- task i of a table that is not refused
-pub task_bounded : (w : List ℕ) → ValidTable w → (i : ℕ) → i < task_count w → (τ : Task) → τ ≡ task_in w i → Bounded τ
-task_bounded w v i h τ e = rw e (record { sound = task_sound w (task_count w) i v h; c_most = task_c_most w (task_count w) i v h })
+-- a quotient rounded up, as std has it and as document 01 does
+pub rounded_up : (t T : ℕ) → 0 < T → div_ceil t T ≡ (t + T - 1) / T
+rounded_up t T h =
+    ⊎_elim
+    (λ a.
+    let more = ltb-true 0 (t % T) a in
+    let above : t + T - 1 ≡ (t / T + 1) * T + (t % T - 1) = omega (arith, div-add-mod' t T, add-mul (t / T) 1 T) in
+    rw (above, div-mul-add (t / T + 1) T (t % T - 1) (omega arith)) (omega arith))
+    (λ a.
+    let none = leb-true (t % T) 0 a in
+    let even : t + T - 1 ≡ t / T * T + (T - 1) = omega (arith, div-add-mod' t T) in
+    rw (even, div-mul-add (t / T) T (T - 1) (omega arith)) (omega arith))
+    (lt_or_ge 0 (t % T))

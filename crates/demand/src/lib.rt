@@ -19,12 +19,12 @@ fn due_of(task: Task, length: u32) -> u64
 }
 
 // What one task can make the others wait.
+#[tactic(auto, using(rules::proofs::Verdicts::wait_in, rules::proofs::Verdicts::wait_out))]
 fn wait_of(task: Task, length: u32) -> u64
-    requires { Bounded task }
-    ensures { (result ≡ wait length task) × (result < 2 ^ 32) }
+    ensures { result ≡ wait length task }
 {
     if length < task.D {
-        u64::from(task.C) - 1
+        u64::from(task.C).saturating_sub(1)
     } else {
         0
     }
@@ -76,8 +76,7 @@ fn work_of(task: Task, t: u32) -> u64
     requires { Bounded task }
     ensures { (result ≡ task.C * ceiling t task.T) × (result ≤ 2 ^ 49) }
 {
-    let period = u64::from(task.T);
-    u64::from(task.C) * ((u64::from(t) + period - 1) / period)
+    u64::from(task.C) * u64::from(t.div_ceil(task.T))
 }
 
 // The sum of that over the tasks.

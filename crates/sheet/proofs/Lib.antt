@@ -1,2 +1,0 @@
--- Laws of what a header's answer tells of a sheet.
-mod Headed

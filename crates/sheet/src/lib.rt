@@ -57,9 +57,11 @@ impl Form for Sheet {
 pub fn read_sheet(text: &[u8], table: &mut [u32]) -> Result<u32, Refusal>
     ensures { ReadsSheet text.now table.old result table.new }
 {
-    let header = header::read_header(text).ok_or(Refusal::NoHeader)?;
+    let Some(header) = header::read_header(text) else {
+        return Err(Refusal::NoHeader);
+    };
     let mut words = [0u32; TABLE_MOST];
-    let n = kernel::read_kernels(&header, &mut words)?;
+    let n = kernel::read_kernels(header, &mut words)?;
     if n == 0 {
         return Err(Refusal::NoRecord);
     }

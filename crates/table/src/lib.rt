@@ -1,7 +1,7 @@
 // A table and its tasks: whether it is one, refusals 1 to 4; and the one reader of a task.
 #![tactic(auto)]
 
-ghost use Rattle.std.specs.Prelude.{◌≡◌, ◌+◌, ◌*◌, ◌≤◌, ◌<◌, ◌++◌, length, take, drop, Some, None, MatchResult};
+ghost use Rattle.std.specs.Prelude.{◌≡◌, ◌≤◌, ◌<◌, length, Some, None, MatchResult};
 ghost use Rattle.rules.specs.Numbers.{table_most};
 ghost use Rattle.rules.specs.Refusals.{answering};
 ghost use Rattle.rules.specs.Table.{word_least, in_range, out_of_range, table_refusal, table_answer, task_in, task_count, ValidTable};
@@ -100,12 +100,4 @@ impl<'a> Tasks<'a> {
             R: self.words[4 * i + 3],
         }
     }
-}
-
-// The first n words of from go to the start of to.
-pub fn copy_words(from: &[u32], n: usize, to: &mut [u32])
-    requires { (n ≤ length from.now) × (n ≤ length to.old) }
-    ensures { to.new ≡ take n from.now ++ drop n to.old }
-{
-    to[..n].copy_from_slice(&from[..n]);
 }

@@ -80,6 +80,7 @@ impl<'a> Page<'a> {
     }
 
     // A number's digits are put at the place, the last one first.
+    // Kept: by hand, and not by Display, since what std's fmt::Write promises of a text leaves open that nothing is written (`OnOk result`).
     pub fn put_number(&mut self, n: u32)
         requires { Fits self.old (digits n) }
         ensures { Adds self.old (digits n) self.new }

@@ -4,7 +4,8 @@ use Prim.Native.Nat.{ℕ, suc, ◌+◌, ◌-◌, ◌≤◌, ◌<◌}
 use native.Mathlib.Omega.{arith}
 use mathlib.Core.List.{List, [], ◌∷◌, ◌++◌}
 use lib.ListN.{get_or}
-use Rattle.rules.specs.Dispatch.{Job, sooner, pick, ready}
+use Rattle.rules.specs.Dispatch.{Job, pick, ready}
+use Rattle.rules.specs.Dispatch as dispatch
 use Rattle.rules.specs.Jobs.{train}
 use Rattle.rules.specs.Table.{task_in}
 use Rattle.rules.specs.declared.Plan.{Plan}
@@ -12,23 +13,17 @@ use Rattle.rules.proofs.Booleans.{split}
 use Rattle.rules.proofs.Order.{ahead_first, goes_before, sooner_yes, sooner_no}
 use Rattle.rules.proofs.Choosing.{pick_come, pick_not, pick_one, pick_nobody, not_yet, ready_after, ready_one, ready_more, pick_train, ready_train, train_none}
 use Rattle.turn.specs.declared.Turn.{Turn}
-use Rattle.turn.specs.Counters.{train_at, release_at, job_at, jobs_at, rest_from, Offered, Chosen, Best}
-use Rattle.std.specs.Prelude.{Option, Some, None, Bool, true, false, cond}
-use Rattle.std.specs.declared.cmp.Ordering.{Ordering}
-use Rattle.std.specs.Ordering.{ordering_then, nat_cmp, is_lt, ord_min}
+use Rattle.turn.specs.Counters.{train_at, release_at, job_at, jobs_at, rest_from, goes_first, sooner, Offered, Offers, Chosen, Best}
+use Rattle.std.specs.Prelude.{Option, Some, None, Bool, true, false, if◌then◌else◌}
 use Rattle.std.proofs.lemmas.Bool.Decides.{nat_tests}
 
--- the order of two turns, by their starts, deadlines and tasks
-abbrev turn_cmp : Turn → Turn → Ordering
-turn_cmp a b = ordering_then (nat_cmp a.start b.start) (ordering_then (nat_cmp a.due b.due) (nat_cmp a.task b.task))
-
--- what it says where the first is of the lower task
+-- what it says of a turn of a lower task and another that the one goes first
 module _ (y x : Turn) (h : y.task < x.task) where
-  less : is_lt (turn_cmp y x) ≡ true → (y.start ≤ x.start) × (x.start ≤ y.start → y.due ≤ x.due)
-  less e = grind (arith, nat_tests)
+  first : goes_first y x ≡ true → (y.start ≤ x.start) × (x.start ≤ y.start → y.due ≤ x.due)
+  first e = grind (arith, nat_tests)
 
-  not_less : is_lt (turn_cmp y x) ≡ false → (x.start ≤ y.start) × (y.start ≤ x.start → x.due < y.due)
-  not_less e = grind (arith, nat_tests)
+  not_first : goes_first y x ≡ false → (x.start ≤ y.start) × (y.start ≤ x.start → x.due < y.due)
+  not_first e = grind (arith, nat_tests)
 
 module _ (w : List ℕ) (p : Plan) (nx : List ℕ) (t m : ℕ) where
   abbrev rest : ℕ → List Job
@@ -101,8 +96,8 @@ module _ (w : List ℕ) (p : Plan) (nx : List ℕ) (t m : ℕ) where
         }
 
     -- it is the first
-    first : rest (i + 1) ≡ [] → Chosen w p nx t m i y
-    first e =
+    alone : rest (i + 1) ≡ [] → Chosen w p nx t m i y
+    alone e =
         new (ready_one t (head i) (rest (i + 1)) e ∙ sym O.starts) (pick_one y.start (head i) (rest (i + 1)) (omega (arith, O.starts)) (pick_nobody y.start (rest (i + 1)) e))
 
     module _ (x : Turn) (ch : Chosen w p nx t m (i + 1) x) where
@@ -114,8 +109,8 @@ module _ (w : List ℕ) (p : Plan) (nx : List ℕ) (t m : ℕ) where
           (λ g.
           let s : x.start ≡ y.start = omega arith in
           pick_come y.start (head i) (rest (i + 1)) (omega (arith, O.starts))
-          ∙ ap (λ (z : ℕ). sooner (head i) (pick z (rest (i + 1)))) (sym s)
-          ∙ ap (sooner (head i)) ch.picked
+          ∙ ap (λ (z : ℕ). dispatch.sooner (head i) (pick z (rest (i + 1)))) (sym s)
+          ∙ ap (dispatch.sooner (head i)) ch.picked
           ∙ sooner_no (head x.task) (head i)
           (ahead_first (head i) (head x.task) (record { deadline = omega (arith, q g, ch.due_then, O.due_then); task = λ k. omega (arith, ch.from) })))
           (λ g. pick_one y.start (head i) (rest (i + 1)) (omega (arith, O.starts)) (not_yet t y.start (rest (i + 1)) (omega (arith, O.starts)) (omega (arith, ch.starts)))))
@@ -131,32 +126,24 @@ module _ (w : List ℕ) (p : Plan) (nx : List ℕ) (t m : ℕ) where
           ∙ split y.start x.start
           (λ g.
           pick_come x.start (head i) (rest (i + 1)) (omega (arith, O.starts))
-          ∙ ap (sooner (head i)) ch.picked
+          ∙ ap (dispatch.sooner (head i)) ch.picked
           ∙ sooner_yes (head x.task) (head i)
           (goes_before (head x.task) (head i) (omega (arith, q g, ch.due_then, O.due_then)) (λ k. absurd (omega (arith, q g, ch.due_then, O.due_then)))))
           (λ g. pick_not x.start (head i) (rest (i + 1)) (omega (arith, ready_after t (rest (i + 1)), ch.starts, O.starts)) ∙ ch.picked))
 
-  -- the walk: what is found from task j on, and what task j - 1 offers
-  module _ (j : ℕ) (o : Option Turn) (h : 0 < j) (k : j ≤ m) (found : Best w p nx t m j o) where
-    found_before : Best w p nx t m (j - 1 + 1) o
-    found_before = let e : j ≡ j - 1 + 1 = omega arith in subst (λ (x : ℕ). Best w p nx t m x o) e found
+  -- what is found of the tasks after task i, and what task i offers: the one that goes first is found from task i on
+  with_offer : (i : ℕ) (o v : Option Turn) → i < m → Best w p nx t m (i + 1) o → Offers w p nx t i v → Best w p nx t m i (sooner o v)
+  with_offer i None None h b d = done i None h d b
+  with_offer i (Some x) None h b d = done i (Some x) h d b
+  with_offer i None (Some y) h b O = alone i y h O b
+  with_offer i (Some x) (Some y) h b O = go (goes_first y x) refl
+    where
+      go : (c : Bool) → goes_first y x ≡ c → Chosen w p nx t m i (if c then y else x)
+      go true e = let q = first y x (omega (arith, O.its_task, b.from)) e in new_goes i y h O x b q.0 q.1
+      go false e = let q = not_first y x (omega (arith, O.its_task, b.from)) e in old_goes i y h O x b q.0 q.1
 
-    -- nothing
-    pub best_done : (train_at w p (j - 1)).count ≤ get_or nx (j - 1) 0 → Best w p nx t m (j - 1) o
-    best_done d = done (j - 1) o (omega arith) d found_before
-
-    module _ (y : Turn) (O : Offered w p nx t (j - 1) y) where
-      -- the first job that is found
-      pub best_first : o ≡ None → Chosen w p nx t m (j - 1) y
-      best_first e = first (j - 1) y (omega arith) O (let b : Best w p nx t m (j - 1 + 1) None = subst (λ (x : Option Turn). Best w p nx t m (j - 1 + 1) x) e found_before in b)
-
-      -- another one: the one that goes first
-      pub best_sooner : (x z : Turn) → o ≡ Some x → z ≡ ord_min turn_cmp x y → Chosen w p nx t m (j - 1) z
-      best_sooner x z e ez =
-          let ch : Best w p nx t m (j - 1 + 1) (Some x) = subst (λ (v : Option Turn). Best w p nx t m (j - 1 + 1) v) e found_before in
-          let lower : y.task < x.task = omega (arith, O.its_task, ch.from) in
-          rw ez (go x ch lower (is_lt (turn_cmp y x)) refl)
-        where
-          go : (x : Turn) → Chosen w p nx t m (j - 1 + 1) x → y.task < x.task → (b : Bool) → is_lt (turn_cmp y x) ≡ b → Chosen w p nx t m (j - 1) (cond b y x)
-          go x ch lower true e = let q = less y x lower e in new_goes (j - 1) y (omega arith) O x ch q.0 q.1
-          go x ch lower false e = let q = not_less y x lower e in old_goes (j - 1) y (omega arith) O x ch q.0 q.1
+  pub best_more : (j : ℕ) (o v z : Option Turn) → 0 < j → j ≤ m → Best w p nx t m j o → Offers w p nx t (j - 1) v → z ≡ sooner o v
+      → Best w p nx t m (j - 1) z
+  best_more j o v z h k b O e =
+      let same : j ≡ j - 1 + 1 = omega arith in
+      rw e (with_offer (j - 1) o v (omega arith) (subst (λ (x : ℕ). Best w p nx t m x o) same b) O)

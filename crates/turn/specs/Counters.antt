@@ -1,5 +1,5 @@
 -- The number of the next job of each task, and what it stands for: the jobs that are not started, and the one that starts next.
-use Rattle.std.specs.Prelude.{◌≡◌, ℕ, zero, suc, ◌+◌, ◌-◌, ◌*◌, ◌^◌, max, ◌≤◌, ◌<◌, List, [], ◌++◌, get_or, replicate, Option, Some, MatchOption}
+use Rattle.std.specs.Prelude.{◌≡◌, ℕ, zero, suc, ◌+◌, ◌-◌, ◌*◌, ◌^◌, max, ◌≤◌, ◌<◌, List, [], ◌++◌, get_or, replicate, Option, Some, None, if◌then◌else◌, MatchOption, Bool, ◌&&◌, ◌||◌, ltb, eqb}
 use Rattle.rules.specs.Numbers.{task_most}
 use Rattle.rules.specs.Dispatch.{Job, pick, ready}
 use Rattle.rules.specs.Jobs.{Train, train, plan_train}
@@ -39,6 +39,16 @@ rest_from w p nx (suc n) k = jobs_at w p k (get_or nx k 0) ++ rest_from w p nx n
 abbrev pub none_started : List ℕ
 none_started = replicate task_most 0
 
+-- whether a turn goes before another: the one that can start first does, then the one with the lesser deadline, then that of the lower task
+abbrev pub goes_first : Turn → Turn → Bool
+goes_first x y = ltb x.start y.start || (eqb x.start y.start && (ltb x.due y.due || (eqb x.due y.due && ltb x.task y.task)))
+
+-- of two turns, where there are two, the one that goes first
+abbrev pub sooner : Option Turn → Option Turn → Option Turn
+sooner None o = o
+sooner (Some x) None = Some x
+sooner (Some x) (Some y) = Some (if goes_first y x then y else x)
+
 -- the next job of task i, as it could start with the tile free from tick t on
 pub record Offered (w : List ℕ) (p : Plan) (nx : List ℕ) (t i : ℕ) (x : Turn) : Type 0 where
   pub its_task : x.task ≡ i
@@ -47,6 +57,10 @@ pub record Offered (w : List ℕ) (p : Plan) (nx : List ℕ) (t i : ℕ) (x : Tu
   pub early : release_at w p i (get_or nx i 0) < 2 ^ 33
   pub starts : x.start ≡ max t (release_at w p i (get_or nx i 0))
   pub due_then : x.due ≡ (job_at w p i (get_or nx i 0)).deadline
+
+-- what task i offers: no job, where none is left, or the next one
+abbrev pub Offers : List ℕ → Plan → List ℕ → ℕ → ℕ → Option Turn → Type 0
+Offers w p nx t i offered = MatchOption offered ((train_at w p i).count ≤ get_or nx i 0) (λ x. Offered w p nx t i x)
 
 -- of the tasks from i on the next job to start, with the tile free from tick t on
 pub record Chosen (w : List ℕ) (p : Plan) (nx : List ℕ) (t m i : ℕ) (x : Turn) : Type 0 where

@@ -1,7 +1,8 @@
 // Which job starts next. Of each task the number of its next job is kept; when that job is released is worked out while walking.
 #![tactic(auto)]
 
-ghost use Rattle.std.specs.Prelude.{◌≡◌, ◌^◌, ◌≤◌, ◌<◌, get_or, MatchOption};
+ghost use Rattle.std.specs.Prelude.{◌≡◌, ◌<◌};
+ghost use Rattle.turn.specs.Counters.{sooner};
 
 use rules::Plan;
 use table::{TASK_MOST, Tasks};
@@ -26,13 +27,12 @@ pub struct Waiting<'a> {
 
 impl<'a> Waiting<'a> {
     ghost use Rattle.rules.specs.Table.{task_count};
-    ghost use Rattle.turn.specs.Counters.{train_at, Offered, Best};
+    ghost use Rattle.turn.specs.Counters.{Offers, Best};
 
     // The next job of task i, if it has one left. It can start at t or at its release, whichever is later.
     fn offer(&self, t: u64, i: usize) -> Option<Turn>
         requires { i < task_count self.now.tasks.words.now }
-        ensures { MatchOption result ((train_at self.now.tasks.words.now self.now.plan i).count ≤ get_or self.now.next i 0)
-            (λ turn. Offered self.now.tasks.words.now self.now.plan self.now.next t i turn) }
+        ensures { Offers self.now.tasks.words.now self.now.plan self.now.next t i result }
     {
         let task = self.tasks.task(i);
         let r = release_of(self.plan, i, task, self.next[i])?;
@@ -49,14 +49,18 @@ impl<'a> Waiting<'a> {
     {
         let mut best: Option<Turn> = None;
         for i in (0..self.tasks.count()).rev() {
-            let Some(turn) = self.offer(t, i) else {
-                continue;
-            };
-            best = match best {
-                Some(other) => Some(other.min(turn)),
-                None => Some(turn),
-            };
+            best = sooner(best, self.offer(t, i));
         }
         best
+    }
+}
+
+// Of two turns, where there are two, the one that goes first.
+fn sooner(found: Option<Turn>, offered: Option<Turn>) -> Option<Turn>
+    ensures { result ≡ sooner found offered }
+{
+    match (found, offered) {
+        (Some(x), Some(y)) => Some(x.min(y)),
+        _ => found.or(offered),
     }
 }

@@ -16,10 +16,8 @@ const HORIZON: u32 = 100000;
 
 // The least length from 1 to H that fails, with its excess. At that one the excess fits: it is below the sum of the executions.
 fn first_fail(tasks: Tasks) -> Option<(u32, u32)>
-    ensures {
-        MatchOption result (first_fail (tasks_of tasks.entry.words.now) ≡ None)
-        (λ f. (first_fail (tasks_of tasks.entry.words.now) ≡ Some f.0) × (f.1 ≡ excess f.0 (tasks_of tasks.entry.words.now)))
-    }
+    ensures { MatchOption result (first_fail (tasks_of tasks.entry.words.now) ≡ None)
+        (λ f. (first_fail (tasks_of tasks.entry.words.now) ≡ Some f.0) × (f.1 ≡ excess f.0 (tasks_of tasks.entry.words.now))) }
 {
     for length in 1..=HORIZON {
         let over = excess_at(tasks, length);

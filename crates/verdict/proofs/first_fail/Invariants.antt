@@ -12,4 +12,3 @@ invariant-loop-length l = record {
   high : l.length ≤ horizon + 1;
   none_before : NonePasses (λ L. fails L (tasks_of l.tasks.words.now)) 1 l.length;
 }
-

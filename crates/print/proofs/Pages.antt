@@ -1,6 +1,6 @@
 -- Bytes added to a page: one outcome, and parts added one after the other.
 use mathlib.Core.Path.{◌≡◌, sym, ap, ◌∙◌}
-use Prim.Native.Nat.{ℕ, ◌+◌, ◌≤◌}
+use Prim.Native.Nat.{ℕ, ◌≤◌}
 use native.Mathlib.Omega.{arith}
 use mathlib.Core.List.{List, [], ◌++◌}
 use lib.ListN.{length, take, drop, length-append}
@@ -33,14 +33,6 @@ at_start {old} {new} vs start p =
     let n : length vs ≡ new.at = omega (arith, p.puts.says) in
     let s : put old.out.now old.at vs ≡ put old.out.now 0 vs = ap (λ (k : ℕ). put old.out.now k vs) start in
     ap (take new.at) (p.puts.leaves ∙ s ∙ put_start old.out.now vs) ∙ take_at vs (drop (length vs) old.out.now) new.at n
-
--- after the first part there is room for the second
-pub fits_second : {old mid : Page} (a b : List ℕ) → Fits old (a ++ b) → Adds old a mid → Fits mid b
-fits_second a b room first = omega (arith, room, first.puts.says, page_length a first, length-append a b)
-
--- the first part fits where the whole does
-pub part_fits : (n m : ℕ) (rest a b : List ℕ) → n + length rest ≤ m → rest ≡ a ++ b → n + length a ≤ m
-part_fits n m rest a b room parts = omega (arith, room, ap length parts, length-append a b)
 
 -- of what a loop adds part by part: rest is still to come at the page's place, and makes the whole
 pub record ToCome (whole : List ℕ) (page : Page) (rest : List ℕ) : Type 0 where

@@ -1,4 +1,4 @@
--- Bytes put at a place of a list: one by one, one after another, a number's digits from the last, a line; and that a call has one outcome.
+-- Bytes put at a place of a list: one after another, and a number's digits from the last; and that a call has one outcome.
 use mathlib.Core.Path.{◌≡◌, sym, ap, ap₂, ◌∙◌}
 use Prim.Native.Nat.{ℕ, zero, suc, ◌+◌, ◌-◌, ◌/◌, ◌%◌, ◌≤◌, ◌<◌}
 use native.Mathlib.Omega.{arith}
@@ -25,7 +25,7 @@ pub put_none : (l : List ℕ) (at i v : ℕ) → i ≡ 0 → put l at (lasts i v
 put_none l at i v e = rw (e, lasts_none v) (put_nil l at)
 
 -- the last byte, put before the others
-pub put_last : (l : List ℕ) (at : ℕ) (vs : List ℕ) (b k : ℕ) → length vs ≡ k → at + k < length l → put (set l (at + k) b) at vs ≡ put l at (vs ++ (b ∷ []))
+put_last : (l : List ℕ) (at : ℕ) (vs : List ℕ) (b k : ℕ) → length vs ≡ k → at + k < length l → put (set l (at + k) b) at vs ≡ put l at (vs ++ (b ∷ []))
 put_last l at vs b k e h =
     let n = at + k in
     let m : at + length vs ≡ n = omega arith in
@@ -76,7 +76,7 @@ module _ (l : List ℕ) (at : ℕ) (vs : List ℕ) (h : at + length vs ≤ lengt
       }
 
 -- one digit of a number, put before those that stand in front of it
-pub put_digit : (l : List ℕ) (at i v : ℕ) → 0 < i → at + i ≤ length l → put (set l (at + (i - 1)) (48 + v % 10)) at (lasts (i - 1) (v / 10)) ≡ put l at (lasts i v)
+put_digit : (l : List ℕ) (at i v : ℕ) → 0 < i → at + i ≤ length l → put (set l (at + (i - 1)) (48 + v % 10)) at (lasts (i - 1) (v / 10)) ≡ put l at (lasts i v)
 put_digit l at zero v p h = absurd (omega arith)
 put_digit l at (suc k) v p h =
     let e : suc k - 1 ≡ k = omega arith in

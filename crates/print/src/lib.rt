@@ -3,7 +3,6 @@
 
 ghost use Rattle.std.specs.Prelude.{◌≡◌, ◌+◌, ◌≤◌, length};
 ghost use Rattle.rules.specs.Text.{digits, line};
-ghost use Rattle.print.specs.Place.{Puts};
 
 // How many digits a number has; 0 has as many as 1.
 pub fn width(n: u32) -> usize
@@ -30,14 +29,6 @@ pub trait Part {
     fn put(self, page: &mut Page)
         requires { Fits page.old (shown self) }
         ensures { Adds page.old (shown self) page.new };
-}
-
-impl Part for &[u8] {
-    ghost shown = { λ bytes. bytes.now };
-
-    fn put(self, page: &mut Page) {
-        page.put_bytes(self);
-    }
 }
 
 impl<const N: usize> Part for &[u8; N] {
@@ -111,33 +102,4 @@ impl<'a> Page<'a> {
     {
         self.put_phrase(key, value, b"\n");
     }
-}
-
-// Bytes are put at a place.
-pub fn put_bytes(out: &mut [u8], at: usize, bytes: &[u8]) -> usize
-    requires { at + length bytes.now ≤ length out.old }
-    ensures { Puts out.old at bytes.now result out.new }
-{
-    let mut i = 0;
-    while i < bytes.len() {
-        out[at + i] = bytes[i];
-        i += 1;
-    }
-    at + i
-}
-
-// A number's digits are put at a place, the last one first.
-pub fn put_number(out: &mut [u8], at: usize, n: u32) -> usize
-    requires { at + length (digits n) ≤ length out.old }
-    ensures { Puts out.old at (digits n) result out.new }
-{
-    let w = width(n);
-    let mut v = n;
-    let mut i = w;
-    while i > 0 {
-        i -= 1;
-        out[at + i] = 48 + (v % 10) as u8;
-        v = v / 10;
-    }
-    at + w
 }

@@ -7,7 +7,7 @@ use mathlib.Core.List.{List, [], ◌∷◌, ◌++◌}
 use mathlib.Core.Bool.{true, false}
 use lib.ListN.{length, drop}
 use borrow.Author.Tests.{lt-ltb, le-ltb, eq-eqb, ne_eqb}
-use Rattle.rules.specs.Numbers.{table_most, end_most}
+use Rattle.rules.specs.Numbers.{end_most}
 use Rattle.rules.specs.Task.{tasks_of}
 use Rattle.rules.specs.Refusals.{first_of, answering}
 use Rattle.rules.specs.Table.{table_refusal, table_answer, ValidTable}
@@ -63,10 +63,6 @@ module _ (w : List ℕ) where
   -- and so its tasks are in bounds
   pub in_bounds : {a : Result (Unit {0}) Refusal} → a ≡ table_answer w → a ≡ Ok (tt {0}) → ValidTable w
   in_bounds e f = valid_of w (not_refused e f)
-
-  -- and its words are few
-  pub few_words : {a : Result (Unit {0}) Refusal} → a ≡ table_answer w → a ≡ Ok (tt {0}) → length w ≤ table_most
-  few_words e f = let bounds = in_bounds e f in omega (arith, bounds.words, bounds.most_tasks)
 
 -- THE READER
 module _ (text table : List ℕ) where

@@ -14,7 +14,7 @@ use Rattle.rules.specs.Demand.{wait, longest_wait, first_waiting, blocker}
 use Rattle.rules.proofs.Booleans.{both, lt_or_ge}
 use Rattle.rules.proofs.Verdicts.{wait_in, wait_out}
 use Rattle.rules.proofs.TasksLeft.{tasks_left, left_none, left_more, left_all}
-use Rattle.std.specs.Prelude.{Some, None}
+use Rattle.std.specs.Prelude.{Some}
 
 -- most is the longest wait of the tasks, numbered from k on, and task the first that has it
 pub record Longest (L k : ℕ) (ts : List Task) (most task : ℕ) : Type 0 where
@@ -76,7 +76,3 @@ module _ (L : ℕ) (ts : List Task) (most task : ℕ) (h : Longest L 0 ts most t
   pub longest_blocks : (most ≡ 0 → ⊥) → blocker L ts ≡ Some task
   unfolding blocker
   longest_blocks n = rw (← h.most_is, lt-ltb 0 most (omega arith)) (ap Some (sym (h.task_is (omega arith))))
-
-  pub longest_nobody : most ≡ 0 → blocker L ts ≡ None
-  unfolding blocker
-  longest_nobody e = rw (← h.most_is, le-ltb 0 most (omega arith))

@@ -1,11 +1,10 @@
 -- A table judged step by step: the range of a word, the words one by one, the length.
-use mathlib.Core.Path.{◌≡◌, ap}
+use mathlib.Core.Path.{◌≡◌, refl, ap}
 use Prim.Native.Nat.{ℕ, ◌+◌, ◌%◌, ◌≤◌, ◌<◌}
 use native.Mathlib.Numerals.{add-one}
-use mathlib.Core.List.{List}
-use mathlib.Core.Bool.{true, false}
-use lib.ListN.{length, drop, get_or, drop_of_length-le}
-use lib.Seq.{drop-cons}
+use mathlib.Core.List.{List, [], ◌∷◌}
+use mathlib.Core.Bool.{Bool, true, false, not}
+use lib.ListN.{length}
 use borrow.Author.Tests.{le-leb, lt-leb, eq-eqb, ne_eqb, lt-ltb, le-ltb}
 use Rattle.rules.specs.Numbers.{table_most, word_most}
 use Rattle.rules.specs.Refusals.{answering}
@@ -13,7 +12,9 @@ use Rattle.rules.specs.Table.{word_least, in_range, out_of_range, table_refusal,
 use Rattle.rules.specs.declared.Refusal.{Refusal}
 use Rattle.rules.specs.declared.Refusal.TheVariants.{NoWord, NotFours, TooManyWords, OutOfRange}
 use Rattle.rules.proofs.Calls.{alone}
-use Rattle.std.specs.Prelude.{Option, Some, None, Ok, Err}
+use Rattle.std.specs.Prelude.{Option, Ok, Err}
+use Rattle.std.specs.List.{enumerate_from, position_from}
+use Rattle.std.specs.Option.{option_map}
 
 -- the least value of a word: of R, and of C, D and T
 module _ (i : ℕ) where
@@ -39,20 +40,21 @@ module _ (i x : ℕ) where
   unfolding in_range
   in_between l h = rw (le-leb (word_least i) x l, le-leb x word_most h)
 
--- the words from index i on: none is left; the first of them fits; it is out of its range
-module _ (w : List ℕ) (i : ℕ) where
-  pub past_all : length w ≤ i → out_of_range i (drop i w) ≡ None
-  unfolding out_of_range
-  past_all h = rw (drop_of_length-le w h)
+-- a word, with its index, is out of its range
+abbrev pub is_out : ℕ × ℕ → Bool
+is_out p = not (in_range p.0 p.1)
 
-  module _ (h : i < length w) where
-    pub word_fits : in_range i (get_or w i 0) ≡ true → out_of_range i (drop i w) ≡ out_of_range (i + 1) (drop (i + 1) w)
-    unfolding out_of_range
-    word_fits e = rw (add-one, drop-cons w i 0, e)
-
-    pub word_out : in_range i (get_or w i 0) ≡ false → out_of_range i (drop i w) ≡ Some (OutOfRange i)
-    unfolding out_of_range
-    word_out e = rw (drop-cons w i 0, e)
+-- the words from index i on: the first that is out of its range
+pub first_out : (i : ℕ) (w : List ℕ) → out_of_range i w ≡ option_map OutOfRange (position_from is_out i (enumerate_from i w))
+unfolding out_of_range
+first_out i [] = refl
+first_out i (x ∷ w) = go (in_range i x) refl (first_out (i + 1) w)
+  where
+    go : (b : Bool) → in_range i x ≡ b
+        → out_of_range (i + 1) w ≡ option_map OutOfRange (position_from is_out (i + 1) (enumerate_from (i + 1) w))
+        → out_of_range i (x ∷ w) ≡ option_map OutOfRange (position_from is_out i (enumerate_from i (x ∷ w)))
+    go true e later = rw (e, ← add-one i) later
+    go false e later = rw e
 
 -- refusals 1, 2 and 3 by the table's length, each in its turn; else the words decide
 module _ (w : List ℕ) where

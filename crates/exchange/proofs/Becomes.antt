@@ -1,5 +1,5 @@
 -- What becomes of an input, by what the calls answered: the refusal of its reading is told, or that of its table; else what is written stands in out.
-use mathlib.Core.Path.{◌≡◌, refl, sym, ap, subst, ◌∙◌}
+use mathlib.Core.Path.{◌≡◌, sym, ap, subst, ◌∙◌}
 use Prim.Native.Nat.{ℕ, ◌*◌, ◌/◌, ◌≤◌, ◌<◌}
 use native.Mathlib.Omega.{arith}
 use mathlib.Core.List.{List, [], ◌∷◌}
@@ -7,7 +7,7 @@ use lib.ListN.{length, take, drop}
 use lib.Seq.{take_at}
 use borrow.Author.Tests.{lt-ltb, le-ltb}
 use Rattle.rules.specs.Numbers.{table_most, input_most}
-use Rattle.rules.specs.Refusals.{first_of, answering, lent}
+use Rattle.rules.specs.Refusals.{first_of, lent}
 use Rattle.rules.specs.Table.{table_refusal}
 use Rattle.rules.specs.Calls.{Reads, ReadsSheet, Makes}
 use Rattle.rules.specs.declared.Refusal.{Refusal}

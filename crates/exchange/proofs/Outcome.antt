@@ -1,17 +1,12 @@
--- What the exchange's promise tells: there is one outcome, it lies in the lent bytes, and a refusal that is told has words for what is wrong.
-use mathlib.Core.Path.{◌≡◌, refl, sym, ap, ◌∙◌}
-use Prim.Native.Nat.{ℕ, ◌+◌, ◌≤◌}
+-- What the exchange's promise tells: there is one outcome, and a refusal that is told has words for what is wrong.
+use mathlib.Core.Path.{◌≡◌, sym, ap, ◌∙◌}
+use Prim.Native.Nat.{ℕ, ◌+◌}
 use native.Mathlib.Omega.{arith}
-use mathlib.Core.List.{List, [], ◌∷◌}
-use lib.ListN.{length, drop, length-append}
-use Rattle.rules.specs.Refusals.{first_of}
-use Rattle.rules.specs.Table.{table_refusal}
-use Rattle.rules.specs.declared.Refusal.{Refusal}
-use Rattle.rules.proofs.Calls.{alone}
+use mathlib.Core.List.{List}
+use lib.ListN.{length}
 use Rattle.print.specs.Place.{Puts}
 use Rattle.print.proofs.Putting.{put_start}
-use Rattle.exchange.specs.Exchange.{reading_refusal, words_in, Outcome, made, told, bytes_of, answer_of, Gives, GivesOne, AllWorded}
-use Rattle.wording.specs.Wording.{wrong_in}
+use Rattle.exchange.specs.Exchange.{told, Gives, GivesOne, AllWorded}
 use Rattle.exchange.proofs.Tellable.{tellable}
 use Rattle.std.specs.Prelude.{Err}
 

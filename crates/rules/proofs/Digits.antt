@@ -103,13 +103,6 @@ module _ (v : ℕ) where
         | no a ↦ omega (arith, ap length (within_more 9 v (omega arith)), one_more (digits_within 9 (v / 10)) (48 + v % 10))
       ]
 
-  pub digits_some : v < 10 ^ 10 → 1 ≤ length (digits v)
-  digits_some l =
-      elim (dec_lt v 10) [
-        | yes a ↦ omega (arith, width_one a)
-        | no a ↦ (let h : 10 ≤ v = omega arith in omega (arith, width_more h l))
-      ]
-
   pub digits_lasts : v < 10 ^ 10 → digits v ≡ lasts (length (digits v)) v
   unfolding digits
   digits_lasts l = within_lasts 9 v l

@@ -1,5 +1,5 @@
 -- A header's columns one by one: which of them has a name, how many have it, and when the header is good.
-use Rattle.std.specs.Prelude.{if◌then◌else◌, Some, None}
+use Rattle.std.specs.Prelude.{if◌then◌else◌}
 use mathlib.Core.Path.{◌≡◌, refl, sym, ap, ◌∙◌}
 use Prim.Native.Nat.{ℕ, zero, suc, ◌+◌, ◌≤◌, ◌<◌}
 use native.Mathlib.Omega.{arith}
@@ -9,7 +9,6 @@ use lib.Dec.{eqb}
 use lib.ListN.{length, get_or}
 use lib.Seq.{ext_get_or}
 use borrow.Author.Tests.{eq-eqb, ne_eqb}
-use Rattle.rules.specs.Text.{after_key}
 use Rattle.rules.specs.Numbers.{task_most}
 use Rattle.rules.specs.Sheet.{Record, fields, no_record, read_record, name_of, is_name, times, column_from, good_header, columns_of, no_header, read_tasks, under_header, read_sheet}
 use Rattle.rules.specs.Sheets.{Once}
@@ -17,17 +16,6 @@ use Rattle.rules.proofs.Booleans.{split}
 use Rattle.rules.proofs.Records.{befores, befores_fields, befores_nothing}
 use Rattle.rules.proofs.SheetNames.{once_exact, column_is, header_exact}
 use Rattle.rules.proofs.SheetRecords.{header_of, sheet_none}
-
--- a content is a name if nothing is left after it
-module _ (name c : List ℕ) where
-  pub name_missing : after_key name c ≡ None → is_name name c ≡ false
-  unfolding is_name
-  name_missing e = rw e
-
-  pub name_begins : (left : List ℕ) → after_key name c ≡ Some left → is_name name c ≡ eqb (length left) 0
-  unfolding is_name
-  name_begins [] e = rw e
-  name_begins (b ∷ left) e = rw (e, ne_eqb (suc (length left)) 0 (omega arith))
 
 -- the columns that have a name
 module _ (name : List ℕ) where
@@ -153,9 +141,6 @@ module _ (hs : List (List ℕ)) where
     columns_within k h =
         let once = names_once good k h in
         rw (columns_at k h) (omega (arith, column_is (name_of k) hs once, once.there))
-
-    pub some_column : 0 < length hs
-    some_column = let within = columns_within 0 (omega arith) in omega arith
 
 -- a sheet by its header
 module _ (s : List ℕ) where

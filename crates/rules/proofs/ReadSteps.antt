@@ -34,14 +34,6 @@ module _ (key t : List ℕ) (i : ℕ) where
     open_key : drop i key ≡ get_or key i 0 ∷ drop (i + 1) key
     open_key = rw (add-one, drop-cons key i 0)
 
-    pub key_none : length t ≡ 0 → after_key (drop i key) t ≡ None
-    unfolding after_key
-    key_none e = rw (open_key, empty t e)
-
-    pub key_wrong : 0 < length t → (get_or t 0 0 ≡ get_or key i 0 → ⊥) → after_key (drop i key) t ≡ None
-    unfolding after_key
-    key_wrong p n = rw (open_key, first_of t p, ne_eqb (get_or t 0 0) (get_or key i 0) n)
-
     pub key_step : 0 < length t → get_or t 0 0 ≡ get_or key i 0 → after_key (drop i key) t ≡ after_key (drop (i + 1) key) (drop 1 t)
     unfolding after_key
     key_step p e = rw (open_key, first_of t p, eq-eqb (get_or t 0 0) (get_or key i 0) e)

@@ -11,7 +11,7 @@ use mathlib.Core.Bool.{Bool, true, false, not}
 use lib.Dec.{leb, ltb, eqb}
 use lib.ListN.{length, get_or}
 use borrow.Author.Tests.{leb-true, ltb-true, ltb-false, eqb-true, eqb-false, le-leb, lt-ltb, le-ltb, eq-eqb, ne_eqb}
-use Rattle.rules.specs.Refusals.{number_of, ◌when◌, first_of}
+use Rattle.rules.specs.Refusals.{◌when◌, first_of}
 use Rattle.rules.specs.Numbers.{table_most, word_most}
 use Rattle.rules.specs.Table.{word_least, in_range, out_of_range, table_refusal, Ranged, FirstOut, Fine}
 use Rattle.rules.specs.declared.Refusal.{Refusal}
@@ -134,13 +134,3 @@ refused_not w = (λ e. go ((table_says w None).0 e), λ x. (table_says w None).1
   where
     go : TableSays w None → Fine w
     go (fine x) = x
-
--- no other number is given
-pub table_number : (w : List ℕ) (r : Refusal) → table_refusal w ≡ Some r → number_of r ≤ 4
-table_number w r e = go r ((table_says w (Some r)).0 e)
-  where
-    go : (r : Refusal) → TableSays w (Some r) → number_of r ≤ 4
-    go r (no_word a) = omega arith
-    go r (not_fours a b) = omega arith
-    go r (too_many a b c) = omega arith
-    go r (out_of_range_law a b c x) = omega arith

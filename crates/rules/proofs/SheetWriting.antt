@@ -9,10 +9,6 @@ use lib.Seq.{drop-cons}
 use Rattle.rules.specs.Text.{bytes, digits}
 use Rattle.rules.specs.Sheet.{comma, crlf, after_word, write_records, write_sheet}
 
--- after a task's last word stands the line end
-pub after_last : (k : ℕ) → k ≡ 3 → after_word k ≡ crlf
-after_last k e = rw e
-
 -- after the others a comma
 pub after_other : (k : ℕ) → k < 4 → (k ≡ 3 → ⊥) → after_word k ≡ comma ∷ []
 after_other zero h n = refl
@@ -42,6 +38,3 @@ module _ (ws : List ℕ) (k : ℕ) where
     pub records_more : write_records k (drop k ws) ≡ (digits (get_or ws k 0) ++ after_word (k % 4)) ++ write_records (k + 1) (drop (k + 1) ws)
     unfolding write_records
     records_more = rw (drop-cons ws k 0, add-one)
-
-    pub records_length : length (write_records k (drop k ws)) ≡ length (digits (get_or ws k 0)) + length (after_word (k % 4)) + length (write_records (k + 1) (drop (k + 1) ws))
-    records_length = ap length records_more ∙ simp length-append (omega arith)

@@ -112,14 +112,6 @@ tasks_from_law w (suc n) k e =
 pub tasks_are : (w : List ℕ) (m : ℕ) → length w ≡ 4 * m → tasks_of w ≡ tasks_from w m 0
 tasks_are w m e = tasks_from_law w m 0 (omega arith)
 
-length_tasks_from : (w : List ℕ) (n k : ℕ) → length (tasks_from w n k) ≡ n
-unfolding tasks_from
-length_tasks_from w zero k = refl
-length_tasks_from w (suc n) k = ap suc (length_tasks_from w n (suc k))
-
-pub length_tasks : (w : List ℕ) (m : ℕ) → length w ≡ 4 * m → length (tasks_of w) ≡ m
-length_tasks w m e = ap (λ (l : List Task). length l) (tasks_are w m e) ∙ length_tasks_from w m 0
-
 task_at_from : (w : List ℕ) (n k i : ℕ) → i < n → task_at (tasks_from w n k) i ≡ task_in w (k + i)
 unfolding task_at tasks_from
 task_at_from w zero k i h = absurd (omega arith)
@@ -137,9 +129,6 @@ task_sound w m i v h = record { c_pos = v.c_low i h; d_pos = v.d_low i h; t_pos 
 
 pub task_c_most : (w : List ℕ) (m i : ℕ) → Valid w m → i < m → (task_in w i).C ≤ word_most
 task_c_most w m i v h = v.high (4 * i) (omega arith)
-
-pub task_t_most : (w : List ℕ) (m i : ℕ) → Valid w m → i < m → (task_in w i).T ≤ word_most
-task_t_most w m i v h = v.high (4 * i + 2) (omega arith)
 
 sound_from : (w : List ℕ) (m n k : ℕ) → Valid w m → k + n ≤ m → AllSound (tasks_from w n k)
 unfolding tasks_from

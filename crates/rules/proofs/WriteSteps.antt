@@ -1,12 +1,12 @@
 -- One step of each definition that writes, and how long what it writes is.
 use mathlib.Core.Path.{◌≡◌, refl, ap, ◌∙◌}
-use Prim.Native.Nat.{ℕ, zero, suc, ◌+◌, ◌-◌, ◌*◌, ◌/◌, ◌%◌, ◌≤◌, ◌<◌}
+use Prim.Native.Nat.{ℕ, zero, suc, ◌+◌, ◌/◌, ◌%◌, ◌≤◌, ◌<◌}
 use native.Mathlib.Numerals.{add-one}
 use native.Mathlib.Omega.{arith}
 use mathlib.Core.List.{List, [], ◌∷◌, ◌++◌}
-use lib.ListN.{length, take, drop, get_or, length-append, drop_of_length-le}
+use lib.ListN.{length, drop, get_or, length-append, drop_of_length-le}
 use lib.Seq.{drop-cons}
-use Rattle.rules.specs.Text.{bytes, key_of, tasks_key, digits_within, digits, line, write_lines, write_set}
+use Rattle.rules.specs.Text.{key_of, tasks_key, digits_within, digits, line, write_lines, write_set}
 
 -- a line
 module _ (key value : List ℕ) where
@@ -24,14 +24,6 @@ key_length zero = refl
 key_length (suc zero) = refl
 key_length (suc (suc zero)) = refl
 key_length (suc (suc (suc k))) = refl
-
--- and stands in the table of keys of rules/src at twice its place
-pub key_part : (k : ℕ) → k < 4 → take (2 * k + 2 - 2 * k) (drop (2 * k) (bytes "c=d=t=r=")) ≡ key_of k
-key_part zero h = refl
-key_part (suc zero) h = refl
-key_part (suc (suc zero)) h = refl
-key_part (suc (suc (suc zero))) h = refl
-key_part (suc (suc (suc (suc k)))) h = absurd (omega arith)
 
 -- a set: its first line, then the others
 module _ (ws : List ℕ) where
@@ -54,14 +46,6 @@ module _ (ws : List ℕ) (k : ℕ) where
     pub write_more : write_lines k (drop k ws) ≡ line (key_of (k % 4)) (digits (get_or ws k 0)) ++ write_lines (k + 1) (drop (k + 1) ws)
     unfolding write_lines
     write_more = rw (drop-cons ws k 0, add-one)
-
-    line_room : length (line (key_of (k % 4)) (digits (get_or ws k 0))) ≡ length (digits (get_or ws k 0)) + 3
-    line_room = omega (arith, line_length (key_of (k % 4)) (digits (get_or ws k 0)), key_length (k % 4))
-
-    pub step_length : length (write_lines k (drop k ws)) ≡ length (digits (get_or ws k 0)) + 3 + length (write_lines (k + 1) (drop (k + 1) ws))
-    step_length =
-        ap length write_more
-        ∙ omega (arith, length-append (line (key_of (k % 4)) (digits (get_or ws k 0))) (write_lines (k + 1) (drop (k + 1) ws)), line_room)
 
 -- the text of the set (1,1,1), R 0, byte for byte
 pub sample_text : write_set (1 ∷ 1 ∷ 1 ∷ 0 ∷ [])

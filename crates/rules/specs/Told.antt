@@ -1,5 +1,5 @@
 -- Each answer as this paper tells it: a number, and the values that go with it. Document 01, the last paragraph; document 02, 3/14.
-use Rattle.std.specs.Prelude.{ℕ, List, [], ◌∷◌, ◌++◌, get_or, Option, Some, None, Result, Ok, Err}
+use Rattle.std.specs.Prelude.{ℕ, List, [], ◌∷◌, ◌++◌, Option, Some, None, Result, Ok, Err}
 use Rattle.rules.specs.Refusals.{entry, carried_values}
 use Rattle.rules.specs.declared.Refusal.{Refusal}
 use Rattle.rules.specs.declared.Verdict.{Verdict}
@@ -19,10 +19,6 @@ number_told (n with vs) = n
 -- its values
 abbrev pub values_told : Told → List ℕ
 values_told (n with vs) = vs
-
--- the first of them, 0 where there is none
-abbrev pub value_told : Told → ℕ
-value_told t = get_or (values_told t) 0 0
 
 -- a refusal: its number with what it carries
 abbrev pub refusal_told : Refusal → Told

@@ -3,6 +3,7 @@ use Rattle.std.specs.Prelude.{◌≡◌, ℕ, ◌+◌, ◌*◌, ◌^◌, ◌≤�
 use Rattle.rules.specs.Demand.{count_within}
 use Rattle.rules.specs.Jobs.{Train, count_before}
 use Rattle.rules.specs.declared.Task.{Task}
+use Rattle.trains.specs.declared.Reach.{Reach}
 
 -- the train from R on of the jobs that are released before an end tick
 abbrev pub released_before : ℕ → Task → Train
@@ -11,6 +12,12 @@ released_before Z τ = record { first = τ.R; count = count_before Z τ }
 -- the train from a tick on of the jobs that are due within a length from then
 abbrev pub due_within : ℕ → ℕ → Task → Train
 due_within r L τ = record { first = r; count = count_within L τ }
+
+-- the train of a task by its reach
+abbrev pub train_of : Reach → Task → Train
+train_of (Reach.Before Z) τ = released_before Z τ
+train_of (Reach.Within L r) τ = due_within r L τ
+train_of Reach.Once τ = record { first = 0; count = 1 }
 
 -- the train has job q, and with a period of T it is released at r; both numbers are small
 pub record Coming (x : Train) (T q r : ℕ) : Type 0 where

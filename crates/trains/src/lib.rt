@@ -3,13 +3,38 @@
 
 ghost use Rattle.std.specs.Prelude.{◌≡◌, ◌-◌, ◌*◌, ◌^◌, ◌<◌};
 ghost use Rattle.rules.specs.Task.{Sound};
+ghost use Rattle.rules.specs.declared.Task.{Task};
 ghost use Rattle.rules.specs.Demand.{count_within};
-ghost use Rattle.rules.specs.Jobs.{count_before, named_train, plan_train};
-ghost use Rattle.trains.specs.Releases.{Comes, ComesOnce, released_before, due_within};
+ghost use Rattle.rules.specs.Jobs.{count_before, plan_train};
+ghost use Rattle.trains.specs.Releases.{Comes, ComesOnce, released_before, due_within, train_of};
 
 use rules::{Plan, Task};
 
+// Which jobs a task's train has: those that are released before an end tick; those that are due within a length, from a tick on; or one, at 0.
+#[derive(Clone, Copy)]
+enum Reach {
+    Before(u32),
+    Within { length: u32, first: u32 },
+    Once,
+}
+
+// The jobs of task k under a plan: in the pattern that a length names a blocker comes once, and the others come from 1 on; without one all come from
+// 0 on.
+fn reach_of(plan: Plan, k: usize) -> Reach
+    ensures { (task : Task) → train_of result task ≡ plan_train plan k task }
+{
+    match plan {
+        Plan::Concrete(end) => Reach::Before(end),
+        Plan::Named(length, None) => Reach::Within { length, first: 0 },
+        Plan::Named(_, Some(b)) if k == b as usize => Reach::Once,
+        Plan::Named(length, Some(_)) => Reach::Within { length, first: 1 },
+    }
+}
+
+// Kept: `requires { Sound task }` in six functions, and no invariant of a type: the definitions of document 01 make a rules::Task of any four words.
+
 // How many jobs of a task are released before an end tick.
+#[tactic(auto, using(rules::proofs::TaskTrains::before_some, rules::proofs::TaskTrains::before_none))]
 fn count_before(task: Task, end: u32) -> u32
     requires { Sound task }
     ensures { result ≡ count_before end task }
@@ -22,6 +47,7 @@ fn count_before(task: Task, end: u32) -> u32
 }
 
 // How many jobs of a task are due within a length, where the first is released as the length begins.
+#[tactic(auto, using(rules::proofs::TaskTrains::within_some, rules::proofs::TaskTrains::within_none))]
 pub fn count_within(task: Task, length: u32) -> u32
     requires { Sound task }
     ensures { result ≡ count_within length task }
@@ -33,25 +59,15 @@ pub fn count_within(task: Task, length: u32) -> u32
     }
 }
 
-// How many jobs task k has in the pattern that a length names: a blocker comes once.
-fn named_count(length: u32, blocker: Option<u32>, k: usize, task: Task) -> u32
-    requires { Sound task }
-    ensures { result ≡ (named_train length blocker k task).count }
-{
-    match blocker {
-        Some(b) if k == b as usize => 1,
-        _ => count_within(task, length),
-    }
-}
-
 // How many jobs task k has under a plan.
 pub fn count_of(plan: Plan, k: usize, task: Task) -> u32
     requires { Sound task }
     ensures { result ≡ (plan_train plan k task).count }
 {
-    match plan {
-        Plan::Concrete(end) => count_before(task, end),
-        Plan::Named(length, blocker) => named_count(length, blocker, k, task),
+    match reach_of(plan, k) {
+        Reach::Before(end) => count_before(task, end),
+        Reach::Within { length, first: _ } => count_within(task, length),
+        Reach::Once => 1,
     }
 }
 
@@ -63,6 +79,7 @@ fn periods(q: u32, period: u32) -> u64
 }
 
 // When job q of a task is released, if that is before an end tick.
+#[tactic(auto, using(crate::proofs::Released::before_at, crate::proofs::Released::before_never))]
 fn release_before(task: Task, end: u32, q: u32) -> Option<u64>
     requires { Sound task }
     ensures { Comes (released_before end task) task.T q result }
@@ -72,6 +89,7 @@ fn release_before(task: Task, end: u32, q: u32) -> Option<u64>
 }
 
 // When job q of a task that comes from a tick on is released, if it is due within a length from then.
+#[tactic(auto, using(crate::proofs::Released::within_at, crate::proofs::Released::within_never))]
 fn release_within(task: Task, length: u32, first: u32, q: u32) -> Option<u64>
     requires { Sound task }
     ensures { Comes (due_within first length task) task.T q result }
@@ -91,26 +109,14 @@ fn release_once(q: u32) -> Option<u64>
     if q == 0 { Some(0) } else { None }
 }
 
-// When job q of task k is released in the pattern that a length names: a blocker comes once, at 0, and the others from 1 on; without one all come
-// from 0 on.
-fn named_release(length: u32, blocker: Option<u32>, k: usize, task: Task, q: u32) -> Option<u64>
-    requires { Sound task }
-    ensures { Comes (named_train length blocker k task) task.T q result }
-{
-    match blocker {
-        None => release_within(task, length, 0, q),
-        Some(b) if k == b as usize => release_once(q),
-        Some(_) => release_within(task, length, 1, q),
-    }
-}
-
 // When job q of task k is released under a plan, if its train has that job.
 pub fn release_of(plan: Plan, k: usize, task: Task, q: u32) -> Option<u64>
     requires { Sound task }
     ensures { Comes (plan_train plan k task) task.T q result }
 {
-    match plan {
-        Plan::Concrete(end) => release_before(task, end, q),
-        Plan::Named(length, blocker) => named_release(length, blocker, k, task, q),
+    match reach_of(plan, k) {
+        Reach::Before(end) => release_before(task, end, q),
+        Reach::Within { length, first } => release_within(task, length, first, q),
+        Reach::Once => release_once(q),
     }
 }

@@ -1,7 +1,0 @@
--- `trains::count_of` counts the jobs of a task under a plan: by cases on the plan, as the definition goes.
-use Rattle.rules.proofs.TaskTrains.{concrete_train_law}
-use Rattle.trains.proofs.count_of.Goals as goal
-
--- the concrete schedule
-pub returns-in-Concrete : goal.returns-in-Concrete
-returns-in-Concrete c = rw (c.in-Concrete.is, ← concrete_train_law _ c.args.k c.args.task) c.count_before.ensures

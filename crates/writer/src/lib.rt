@@ -108,7 +108,7 @@ fn put<F: Form>(tasks: Tasks, out: &mut [u8])
     requires { length (F.make tasks.words.now) ≤ length out.old }
     ensures { out.new ≡ F.make tasks.entry.words.now ++ drop (length (F.make tasks.entry.words.now)) out.old }
 {
-    let mut page = Page { out, at: 0 };
+    let mut page = Page::new(out);
     F::put_first(tasks, &mut page);
     for (k, &n) in tasks.words.iter().enumerate() {
         let which = k % 4;

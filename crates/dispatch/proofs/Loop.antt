@@ -4,7 +4,6 @@ use Prim.Native.Nat.{ℕ, suc, ◌+◌, ◌-◌, ◌*◌, ◌^◌, ◌≤◌, �
 use native.Mathlib.Omega.{arith}
 use mathlib.Core.List.{List, [], ◌∷◌, ◌++◌, append_assoc, append-nil}
 use lib.ListN.{length, get_or, take, drop, length-append, length-set}
-use lib.Seq.{take_at, drop_at, drop-drop}
 use Rattle.rules.specs.Dispatch.{Job, Row, rows, dispatch, late_job, row_words}
 use Rattle.rules.specs.Task.{tasks_of}
 use Rattle.rules.specs.Table.{task_in, task_count, Valid}
@@ -15,6 +14,7 @@ use Rattle.rules.specs.declared.Plan.{Plan}
 use Rattle.rules.proofs.Tables.{task_c_most}
 use Rattle.rules.proofs.Choosing.{rows_none, rows_all}
 use Rattle.rules.proofs.LateJob.{late_no_row}
+use Rattle.rules.proofs.Slices.{four_more}
 use Rattle.rules.proofs.RowWords.{finish_is, row_words_append, length_row_words, row_words_none, row_words_one}
 use Rattle.rules.proofs.Calls.{dispatch_rows}
 use Rattle.turn.specs.declared.Turn.{Turn}
@@ -92,16 +92,6 @@ module _ (w : List ℕ) (plan : Plan) (out₀ : List ℕ) (m n : ℕ) (ok : Vali
         let st : OneTurn w plan nx m t p x = one_turn w plan nx m t p x (omega (arith, S.slots, ok.most_tasks)) (omega (arith, S.jobs)) ch in
         let ep : n - k ≡ suc p = omega arith in
         let len : length (row_words done) ≡ 4 * k = omega (arith, length_row_words done, S.count) in
-        let front : take (4 * k) out ≡ row_words done =
-        ap (take (4 * k)) S.written ∙ take_at (row_words done) (drop (4 * k) out₀) (4 * k) len
-        in
-        let back : drop (4 * k) out ≡ drop (4 * k) out₀ =
-        ap (drop (4 * k)) S.written ∙ drop_at (row_words done) (drop (4 * k) out₀) (4 * k) len
-        in
-        let e4 : 4 * k + 4 ≡ 4 * (k + 1) = omega arith in
-        let beyond : drop (4 * k + 4) out ≡ drop (4 * (k + 1)) out₀ =
-        sym (drop-drop 4 (4 * k) out) ∙ ap (drop 4) back ∙ drop-drop 4 (4 * k) out₀ ∙ ap (λ (i : ℕ). drop i out₀) e4
-        in
         record {
           done = done ++ (row ∷ []);
           most = omega arith;
@@ -117,11 +107,9 @@ module _ (w : List ℕ) (plan : Plan) (out₀ : List ℕ) (m n : ℕ) (ok : Vali
               ∙ sym (append_assoc done (row ∷ []) (rows p e after));
           count = omega (arith, length-append done (row ∷ []), S.count);
           written =
-              eo
-              ∙ ap₂ (λ (a b : List ℕ). a ++ (x.task ∷ q ∷ x.start ∷ e ∷ b)) front beyond
-              ∙ ap₂ (λ (i z : ℕ). row_words done ++ (x.task ∷ i ∷ x.start ∷ z ∷ drop (4 * (k + 1)) out₀)) eq ee
-              ∙ ap (λ (ws : List ℕ). row_words done ++ (ws ++ drop (4 * (k + 1)) out₀)) (sym (row_words_one row))
-              ∙ sym (append_assoc (row_words done) (row_words (row ∷ [])) (drop (4 * (k + 1)) out₀))
+              four_more out₀ (row_words done) k x.task q x.start e len S.written eo
+              ∙ ap₂ (λ (i z : ℕ). (row_words done ++ (x.task ∷ i ∷ x.start ∷ z ∷ [])) ++ drop (4 * (k + 1)) out₀) eq ee
+              ∙ ap (λ (ws : List ℕ). (row_words done ++ ws) ++ drop (4 * (k + 1)) out₀) (sym (row_words_one row))
               ∙ ap (λ (ws : List ℕ). ws ++ drop (4 * (k + 1)) out₀) (sym (row_words_append done (row ∷ [])));
           so_far =
               el

@@ -37,6 +37,7 @@ fn run(tasks: Tasks<'_>, plan: Plan, n: usize, rows: &mut [u64]) -> Timing
     };
     let mut t: u64 = 0;
     let mut late: Option<Late> = None;
+    // Kept: rows by their numbers, and not the parts of `rows.chunks_exact_mut(4)`: a proof knows no element of a slice that was written through them.
     for k in 0..n {
         let turn = waiting.choose(t).unwrap();
         let job = Late {

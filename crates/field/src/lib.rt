@@ -6,6 +6,7 @@ ghost use Rattle.rules.specs.Sheet.{mark, content, no_field, read_field, after_e
 ghost use Rattle.rules.specs.Standing.{standing, standing_step};
 ghost use Rattle.std.specs.List.{position};
 ghost use Rattle.field.specs.Fields.{Quoted, stepped};
+ghost use Rattle.field.specs.Takers.{Taken, Refused};
 
 // A field: its bytes, without the quotes around them; the bytes after what follows it; and whether that is the end of the record.
 #[derive(Clone, Copy)]
@@ -84,4 +85,39 @@ pub fn next_field<'a>(s: &'a [u8]) -> Option<Field<'a>>
         rest,
         last: true,
     })
+}
+
+// What takes the fields of a record one after another, with their numbers, which are counted from 1.
+pub trait Taker {
+    ghost use Rattle.std.specs.Prelude.{List, [], ℕ};
+    ghost use Rattle.field.specs.Takers.{TakesOn};
+
+    // what one has become of another by taking fields with these contents
+    ghost taken: { Self → List (List ℕ) → Self → Type 0 };
+
+    // what such contents have if no record that begins with them is as due
+    ghost refused: { Self → List (List ℕ) → Type 0 };
+
+    // One field is taken, if it is as due.
+    fn take(&mut self, body: &[u8], n: usize) -> Option<()>
+        ensures { TakesOn taken refused body.now n self.old self.new result };
+
+    ghost begins: { (x : Self) → taken x [] x };
+}
+
+// The fields of the record at the start of s are taken, if all are as due: how many there are, and the bytes after the record.
+pub fn read_record<'a, T: Taker>(s: &'a [u8], to: &mut T) -> Option<(usize, &'a [u8])>
+    ensures { MatchOption result (Refused T.refused s.now to.old) (λ p. Taken T.taken s.now to.old to.new p.0 p.1.now) }
+{
+    let mut rest = s;
+    let mut n: usize = 0;
+    loop {
+        let field = next_field(rest)?;
+        n += 1;
+        to.take(field.body, n)?;
+        rest = field.rest;
+        if field.last {
+            return Some((n, rest));
+        }
+    }
 }

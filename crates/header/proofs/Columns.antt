@@ -1,46 +1,30 @@
 -- The fields of a header one after another: which of the four names have come, and in which columns.
 use mathlib.Core.Path.{◌≡◌, refl, sym, ap, ◌∙◌}
 use borrow.Author.Tests.{ne_eqb}
-use Prim.Native.Nat.{ℕ, zero, suc, ◌+◌, ◌≤◌, ◌<◌}
+use Prim.Native.Nat.{ℕ, zero, suc, ◌+◌, ◌<◌}
 use native.Mathlib.Omega.{arith}
 use mathlib.Core.List.{List, [], ◌∷◌, ◌++◌}
 use mathlib.Core.Bool.{Bool, true, false, not, ◌&&◌}
 use lib.Dec.{eqb}
 use Rattle.std.proofs.lemmas.List.{get_or-map, length-map}
-use lib.ListN.{length, get_or, length-append, get_or-replicate}
-use Rattle.rules.specs.Sheet.{Record, fields, no_record, before, read_record, name_of, is_name, times, column_from, good_header, columns_of, read_sheet, no_header}
+use lib.ListN.{length, get_or}
+use Rattle.rules.specs.Sheet.{name_of, is_name, times, column_from, good_header, columns_of, read_sheet, no_header}
 use Rattle.rules.specs.Sheets.{doubled}
-use Rattle.rules.proofs.Records.{befores, befores_none, befores_more, befores_all, befores_nothing, name_standing}
-use Rattle.rules.proofs.HeaderSteps.{unnamed, times_none, first_more, once_more, twice_more, once_named, good_by, columns_are, columns_four, columns_within, no_record_law, bad_header, not_both, name_twice}
+use Rattle.rules.proofs.Records.{name_standing}
+use Rattle.rules.proofs.HeaderSteps.{first_more, once_more, twice_more, once_named, good_by, columns_are, columns_four, columns_within, no_record_law, bad_header, not_both, name_twice}
 use Rattle.header.specs.Within.{Within}
-use Rattle.header.specs.Headers.{Notes, Good, good, HeadsOne}
+use Rattle.header.specs.Headers.{Column, Noted, IsNoted, IsTwice, Notes, Good, good, HeadsOne}
+use Rattle.header.specs.declared.Named.{Named}
+use Rattle.field.specs.Takers.{TakesOn, Taken, Refused, none_there, not_due}
 use Rattle.std.specs.Prelude.{Option, Some, None, map, if◌then◌else◌}
-
--- a name's column, if it has one, is this one, which is 0 where it has none
-abbrev pub Column : Option ℕ → ℕ → Type 0
-Column (Some n) k = (n ≡ k) × (0 < k)
-Column None k = k ≡ 0
 
 column_there : (noted : Option ℕ) (k : ℕ) → Column noted k → (noted ≡ None → ⊥) → k ≡ 0 → ⊥
 column_there (Some n) k c some e = omega (arith, c.1)
 column_there None k c some e = some refl
 
--- the columns of the names that have come are noted, and none came twice
-pub record Noted (cs : List (List ℕ)) (columns : List (Option ℕ)) : Type 0 where
-  pub four : length columns ≡ 4
-  pub each : (k : ℕ) → k < 4 → Column (get_or columns k None) (column_from 1 (name_of k) cs)
-  pub once : (k : ℕ) → k < 4 → times (name_of k) cs ≤ 1
-
-noted_none : Noted [] (None ∷ None ∷ None ∷ None ∷ [])
-noted_none = record {
-  four = refl;
-  each = λ k h. rw (get_or-replicate {A = Option ℕ} 4 k None None h) (unnamed (name_of k) 1 [] (times_none (name_of k)));
-  once = λ k h. omega (arith, times_none (name_of k));
-}
-
 -- one field more
 module _ (cs : List (List ℕ)) (columns : List (Option ℕ)) (so_far : Noted cs columns) (c : List ℕ) (exit : List (Option ℕ)) where
-  module _ (says : Notes (doubled c) (length cs + 1) columns true exit) where
+  module _ (says : Notes (doubled c) (length cs + 1) columns (Some tt) exit) where
     -- a name that it is has no column yet
     new : (k : ℕ) → k < 4 → is_name (name_of k) c ≡ true → column_from 1 (name_of k) cs ≡ 0
     new k h is = rw (says.new refl k h (name_standing k c ∙ is)) at (so_far.each k h)
@@ -59,7 +43,7 @@ module _ (cs : List (List ℕ)) (columns : List (Option ℕ)) (so_far : Noted cs
       once = λ k h. once_more (name_of k) cs (so_far.once k h) c (new k h);
     }
 
-  noted_twice : Notes (doubled c) (length cs + 1) columns false exit → (k : ℕ) × (k < 4) × (1 < times (name_of k) (cs ++ (c ∷ [])))
+  noted_twice : Notes (doubled c) (length cs + 1) columns None exit → (k : ℕ) × (k < 4) × (1 < times (name_of k) (cs ++ (c ∷ [])))
   noted_twice says =
       let found = says.twice refl in
       let k = found.0 in
@@ -104,49 +88,32 @@ module _ (hs : List (List ℕ)) (noted : List (Option ℕ)) (all : Noted hs note
     columns_noted : columns ≡ columns_of hs
     columns_noted = columns_are hs columns long (λ k h. (column k h).0)
 
--- so many fields of the header of s are read and noted, and so much of its record is left
-pub record Headed (s : List ℕ) (left : Record) (count : ℕ) (columns : List (Option ℕ)) : Type 0 where
-  pub contents : List (List ℕ)
-  pub reads : befores contents left ≡ read_record s
-  pub counts : length contents ≡ count
-  pub noted : Noted contents columns
+-- what noting a name does is what is asked of what takes a record's fields
+pub takes : (body : List ℕ) (n : ℕ) (old new : Named) (answer : Option (Unit {0})) → Notes body n old.columns answer new.columns
+    → TakesOn (λ (start : Named) (cs : List (List ℕ)) (now : Named). IsNoted start.columns cs now.columns) (λ (start : Named) (cs : List (List ℕ)). IsTwice start.columns cs) body n old new answer
+takes body n old new (Some u) notes = record {
+  says = λ start cs c before standing counts fresh. noted_more cs old.columns (before fresh) c new.columns (rw counts at (rw standing at notes));
+}
+takes body n old new None notes = record {
+  says = λ start cs c before standing counts fresh. noted_twice cs old.columns (before fresh) c new.columns (rw counts at (rw standing at notes));
+}
 
-pub headed_none : (s : List ℕ) → Headed s (read_record s) 0 (None ∷ None ∷ None ∷ None ∷ [])
-headed_none s = record { contents = []; reads = befores_none (read_record s); counts = refl; noted = noted_none }
+-- a record of which no field was noted before
+module _ (s : List ℕ) (start : List (Option ℕ)) (fresh : start ≡ None ∷ None ∷ None ∷ None ∷ []) where
+  -- it is none, or a name comes twice in it
+  pub headless : Refused (λ (x : Named) (cs : List (List ℕ)). IsTwice x.columns cs) s (record { columns = start }) → read_sheet s ≡ no_header
+  headless (none_there e) = no_record_law s e
+  headless (not_due cs left e twice) = let found = twice fresh in name_twice s cs left e found.0 found.1 found.2
 
-module _ {s : List ℕ} {columns : List (Option ℕ)} {count : ℕ} where
-  -- what is left is no record
-  pub headed_wrong : Headed s no_record count columns → read_sheet s ≡ no_header
-  headed_wrong so_far = no_record_law s (sym so_far.reads ∙ befores_nothing so_far.contents)
+  module _ {now : Named} {n : ℕ} {rest : List ℕ} (t : Taken (λ (x : Named) (cs : List (List ℕ)) (y : Named). IsNoted x.columns cs y.columns) s (record { columns = start }) now n rest) where
+    -- a name has no column
+    pub headed_bad : (k : ℕ) → k < 4 → get_or now.columns k None ≡ None → read_sheet s ≡ no_header
+    headed_bad k h e = bad_header s t.contents rest t.reads (missing_is t.contents now.columns (t.holds fresh) k h e)
 
-  -- a field is left, whose name is looked for
-  module _ (c : List ℕ) (left : Record) (so_far : Headed s (before c left) count columns) (exit : List (Option ℕ)) where
-    with_field : befores (so_far.contents ++ (c ∷ [])) left ≡ read_record s
-    with_field = sym (befores_more so_far.contents c left) ∙ so_far.reads
-
-    pub headed_twice : Notes (doubled c) (count + 1) columns false exit → read_sheet s ≡ no_header
-    headed_twice says =
-        let found = noted_twice so_far.contents columns so_far.noted c exit (rw so_far.counts says) in
-        name_twice s (so_far.contents ++ (c ∷ [])) left with_field found.0 found.1 found.2
-
-    pub headed_more : Notes (doubled c) (count + 1) columns true exit → Headed s left (count + 1) exit
-    headed_more says = record {
-      contents = so_far.contents ++ (c ∷ []);
-      reads = with_field;
-      counts = length-append so_far.contents (c ∷ []) ∙ ap (λ (n : ℕ). n + 1) so_far.counts;
-      noted = noted_more so_far.contents columns so_far.noted c exit (rw so_far.counts says);
-    }
-
-  -- no field is left
-  module _ {u : List ℕ} (all : Headed s (fields [] u) count columns) where
-    whole : read_record s ≡ fields all.contents u
-    whole = sym all.reads ∙ befores_all all.contents u
-
-    pub headed_bad : (k : ℕ) → k < 4 → get_or columns k None ≡ None → read_sheet s ≡ no_header
-    headed_bad k h e = bad_header s all.contents u whole (missing_is all.contents columns all.noted k h e)
-
-    pub headed_good : (named : List ℕ) → columns ≡ map Some named → Good s named count u
-    headed_good named e = rw (← all.counts, columns_noted all.contents columns all.noted named e) (good whole (good_is all.contents columns all.noted named e))
+    -- all have one
+    pub headed_good : (columns : List ℕ) → now.columns ≡ map Some columns → Good s columns n rest
+    headed_good columns e =
+        rw (t.counts, columns_noted t.contents now.columns (t.holds fresh) columns e) (good t.reads (good_is t.contents now.columns (t.holds fresh) columns e))
 
 -- the columns of a good header are among those that it has
 pub good_within : {s columns after : List ℕ} {count : ℕ} → Good s columns count after → Within columns count

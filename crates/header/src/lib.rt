@@ -7,6 +7,7 @@ ghost use Rattle.header.specs.Headers.{Notes, AllOf, Heads};
 
 mod found;
 
+use field::Taker;
 pub use found::Header;
 use rules::{DEADLINE, EXECUTION, PERIOD, RELEASE};
 
@@ -30,19 +31,39 @@ pub fn is_name(body: &[u8], name: &[u8]) -> bool
     body == name
 }
 
-// A column's name is noted where it is one of the four; the answer is whether none was noted before.
-fn note_name(body: &[u8], column: usize, columns: &mut [Option<usize>; 4]) -> bool
+// A column's name is noted where it is one of the four, if none was noted before.
+fn note_name(body: &[u8], column: usize, columns: &mut [Option<usize>; 4]) -> Option<()>
     ensures { Notes body.now column columns.old result columns.new }
 {
     for (k, noted) in columns.iter_mut().enumerate() {
         if is_name(body, column_name(k)) {
             if noted.is_some() {
-                return false;
+                return None;
             }
             *noted = Some(column);
         }
     }
-    true
+    Some(())
+}
+
+// The columns of the four names, as far as they have come.
+#[derive(Clone, Copy)]
+struct Named {
+    columns: [Option<usize>; 4],
+}
+
+impl Taker for Named {
+    ghost use Rattle.header.specs.Headers.{IsNoted, IsTwice, none_noted};
+
+    ghost taken = { λ start cs now. IsNoted start.columns cs now.columns };
+
+    ghost refused = { λ start cs. IsTwice start.columns cs };
+
+    fn take(&mut self, body: &[u8], n: usize) -> Option<()> {
+        note_name(body, n, &mut self.columns)
+    }
+
+    ghost begins = { λ x. none_noted x.columns };
 }
 
 // The columns of the four names, if all have one.
@@ -56,23 +77,12 @@ fn all_named(columns: &[Option<usize>; 4]) -> Option<[usize; 4]>
 pub fn read_header<'a>(s: &'a [u8]) -> Option<Header<'a>>
     ensures { Heads s.now result }
 {
-    let mut rest = s;
-    let mut count: usize = 0;
-    let mut columns = [None; 4];
-    loop {
-        let field = field::next_field(rest)?;
-        count += 1;
-        if !note_name(field.body, count, &mut columns) {
-            return None;
-        }
-        rest = field.rest;
-        if field.last {
-            let columns = all_named(&columns)?;
-            return Some(Header {
-                columns,
-                count,
-                rest,
-            });
-        }
-    }
+    let mut named = Named { columns: [None; 4] };
+    let (count, rest) = field::read_record(s, &mut named)?;
+    let columns = all_named(&named.columns)?;
+    Some(Header {
+        columns,
+        count,
+        rest,
+    })
 }

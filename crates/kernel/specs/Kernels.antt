@@ -1,6 +1,8 @@
 -- What the calls on the records after a header promise.
-use Rattle.std.specs.Prelude.{◌≡◌, ℕ, ◌*◌, ◌≤◌, ◌<◌, List, [], Option, Some, None, Result, Ok, Err, MatchOption, length, take, get_or}
+use Rattle.std.specs.Prelude.{◌≡◌, ℕ, ◌-◌, ◌*◌, ◌≤◌, ◌<◌, List, [], Option, Some, None, Result, Ok, Err, MatchOption, length, take, get_or}
 use Rattle.kernel.specs.declared.Kernel.{Kernel}
+use native.Mathlib.Omega.{arith}
+use mathlib.Core.Path.{refl}
 use Rattle.rules.specs.Numbers.{task_most}
 use Rattle.rules.specs.Sheet.{read_record, field_number, row, no_row, read_row, Sheet, tasks, wrong, read_tasks}
 use Rattle.rules.specs.declared.Refusal.{Refusal}
@@ -12,6 +14,23 @@ pub record Stores (body : List ℕ) (column : ℕ) (columns old : List ℕ) (ans
   pub here : answer ≡ Some tt → (k : ℕ) → k < 4 → get_or columns k 0 ≡ column → field_number body ≡ Some (get_or exit k 0)
   pub elsewhere : (k : ℕ) → k < 4 → (get_or columns k 0 ≡ column → ⊥) → get_or exit k 0 ≡ get_or old k 0
   pub none_here : answer ≡ None → (k : ℕ) × (k < 4) × (get_or columns k 0 ≡ column) × (field_number body ≡ None)
+
+-- columns are counted from 1
+abbrev pub FromOne : List ℕ → Type 0
+FromOne columns = (k : ℕ) → k < 4 → 1 ≤ get_or columns k 0
+
+-- of fields with these contents each word whose column has come is its number, and there are as many words as at the start; or one is no number
+abbrev pub IsStored : List ℕ → List ℕ → List (List ℕ) → List ℕ → List ℕ → Type 0
+IsStored columns start cs same words =
+    FromOne columns → (same ≡ columns) × (length words ≡ length start)
+        × ((k : ℕ) → k < 4 → get_or columns k 0 ≤ length cs → field_number (get_or cs (get_or columns k 0 - 1) []) ≡ Some (get_or words k 0))
+
+abbrev pub IsMissing : List ℕ → List (List ℕ) → Type 0
+IsMissing columns cs = FromOne columns → (k : ℕ) × (k < 4) × (get_or columns k 0 - 1 < length cs) × (field_number (get_or cs (get_or columns k 0 - 1) []) ≡ None)
+
+-- before the first field no column has come
+pub none_stored : (columns words : List ℕ) → IsStored columns words [] columns words
+none_stored columns words one = (refl, refl, λ k h l. absurd (omega (arith, one k h)))
 
 -- what a sheet's records are by the answer and the words: at most as many rows as a tile has tasks, or the number of one that is not as due
 pub data Said (words : List ℕ) : Result ℕ Refusal → Sheet → Type 0 where

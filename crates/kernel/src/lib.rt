@@ -6,6 +6,7 @@ ghost use Rattle.rules.specs.Numbers.{table_most};
 ghost use Rattle.rules.specs.Sheet.{field_number};
 ghost use Rattle.kernel.specs.Kernels.{Stores, Takes, Reads};
 
+use field::Taker;
 use header::Header;
 use rules::Refusal;
 use table::TASK_MOST;
@@ -46,25 +47,42 @@ fn store_number(
     Some(())
 }
 
+// A kernel's words, as far as their fields have come, by the columns of the four names.
+#[derive(Clone, Copy)]
+struct Row {
+    columns: [usize; 4],
+    words: [u32; 4],
+}
+
+impl Taker for Row {
+    ghost use Rattle.kernel.specs.Kernels.{IsStored, IsMissing, none_stored};
+
+    ghost taken = { λ start cs now. IsStored start.columns start.words cs now.columns now.words };
+
+    ghost refused = { λ start cs. IsMissing start.columns cs };
+
+    fn take(&mut self, body: &[u8], n: usize) -> Option<()> {
+        store_number(body, n, &self.columns, &mut self.words)
+    }
+
+    ghost begins = { λ x. none_stored x.columns x.words };
+}
+
 // The kernel of the record at the start of s, if it is as due.
 fn read_kernel<'a>(s: &'a [u8], header: Header<'_>) -> Option<Kernel<'a>>
     ensures { Takes s.now header.entry.columns header.entry.count result }
 {
-    let mut rest = s;
-    let mut n: usize = 0;
-    let mut words = [0u32; 4];
-    loop {
-        let field = field::next_field(rest)?;
-        n += 1;
-        store_number(field.body, n, &header.columns, &mut words)?;
-        rest = field.rest;
-        if field.last {
-            if n != header.count {
-                return None;
-            }
-            return Some(Kernel { words, rest });
-        }
+    let columns = header.columns;
+    let mut row = Row {
+        columns,
+        words: [0; 4],
+    };
+    let (n, rest) = field::read_record(s, &mut row)?;
+    if n != header.count {
+        return None;
     }
+    let words = row.words;
+    Some(Kernel { words, rest })
 }
 
 // All records after the header, which is record 1, up to the end of the sheet: their numbers go to the start of words; the answer is how many there

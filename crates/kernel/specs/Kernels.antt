@@ -23,7 +23,7 @@ FromOne columns = (k : ℕ) → k < 4 → 1 ≤ get_or columns k 0
 abbrev pub IsStored : List ℕ → List ℕ → List (List ℕ) → List ℕ → List ℕ → Type 0
 IsStored columns start cs same words =
     FromOne columns → (same ≡ columns) × (length words ≡ length start)
-        × ((k : ℕ) → k < 4 → get_or columns k 0 ≤ length cs → field_number (get_or cs (get_or columns k 0 - 1) []) ≡ Some (get_or words k 0))
+    × ((k : ℕ) → k < 4 → get_or columns k 0 ≤ length cs → field_number (get_or cs (get_or columns k 0 - 1) []) ≡ Some (get_or words k 0))
 
 abbrev pub IsMissing : List ℕ → List (List ℕ) → Type 0
 IsMissing columns cs = FromOne columns → (k : ℕ) × (k < 4) × (get_or columns k 0 - 1 < length cs) × (field_number (get_or cs (get_or columns k 0 - 1) []) ≡ None)

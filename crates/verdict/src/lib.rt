@@ -29,6 +29,7 @@ fn first_fail(tasks: Tasks) -> Option<(u32, u32)>
 }
 
 // The span: no t below the work of one that does not close can close, so the look goes on from there.
+// Kept: the loop; it counts no index, t goes on to its work, so that no range or chain is plainer.
 fn find_span(tasks: Tasks) -> Option<u32>
     ensures { result ≡ span (tasks_of tasks.entry.words.now) }
 {

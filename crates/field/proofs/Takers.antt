@@ -10,7 +10,7 @@ use Rattle.rules.specs.Sheets.{doubled}
 use Rattle.rules.specs.Standing.{standing_step}
 use Rattle.rules.proofs.Records.{befores, befores_none, befores_more, befores_all, befores_nothing}
 use Rattle.field.specs.Fields.{step_of}
-use Rattle.field.specs.Takers.{TakesOn, Taken, Refused, none_there, not_due}
+use Rattle.field.specs.Takers.{TakesOn, Taken, Refused, none_there, not_due, TakenOne}
 use Rattle.field.proofs.Records.{after_field, field_found, none_found}
 
 -- n fields are taken: their contents before what is left are the record
@@ -57,3 +57,10 @@ module _ {S : Type 0} {taken : S → List (List ℕ) → S → Type 0} where
         counts = length-append so_far.contents (found.0 ∷ []) ∙ ap (λ (m : ℕ). m + 1) so_far.counts;
         holds = takes.says start so_far.contents found.0 so_far.holds found.1 (ap (λ (m : ℕ). m + 1) (sym so_far.counts));
       }
+
+-- one outcome
+pub taken_one : TakenOne
+taken_one S taken s start new other n m rest after a b =
+    let same : fields a.contents rest ≡ fields b.contents after = sym a.reads ∙ b.reads in
+    let contents : a.contents ≡ b.contents = cc in
+    (a.counts ∙ ap length contents ∙ sym b.counts, (cc))

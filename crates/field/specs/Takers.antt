@@ -21,3 +21,8 @@ pub record Taken {S : Type 0} (taken : S → List (List ℕ) → S → Type 0) (
 pub data Refused {S : Type 0} (refused : S → List (List ℕ) → Type 0) (s : List ℕ) (start : S) : Type 0 where
   none_there : read_record s ≡ no_record → Refused refused s start
   not_due : (cs : List (List ℕ)) (left : Record) → befores cs left ≡ read_record s → refused start cs → Refused refused s start
+
+-- two outcomes of one record that is read have the same count and rest, whatever takes its fields
+abbrev pub TakenOne : Type 1
+TakenOne = (S : Type 0) (taken : S → List (List ℕ) → S → Type 0) (s : List ℕ) (start new other : S) (n m : ℕ) (rest after : List ℕ)
+    → Taken taken s start new n rest → Taken taken s start other m after → (n ≡ m) × (rest ≡ after)

@@ -35,6 +35,7 @@ fn first_mark(s: &[u8]) -> Option<usize>
 fn quoted_length(s: &[u8]) -> Option<usize>
     ensures { Quoted s.now result }
 {
+    // whether the last byte is a quote, which may be half of a doubled one
     let mut half = false;
     for (i, b) in s.iter().enumerate() {
         if *b == b'"' {

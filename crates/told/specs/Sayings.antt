@@ -1,11 +1,10 @@
 -- What is told of each answer: the rules' number and values, with those that are the probe's own.
-use Rattle.std.specs.Prelude.{ℕ, [], ◌∷◌, ◌++◌}
+use Rattle.std.specs.Prelude.{◌≡◌, ℕ, [], ◌∷◌, ◌++◌, Option, Some, None, Result, Ok, Err, MatchResult}
 use Rattle.rules.specs.Refusals.{number_of}
-use Rattle.rules.specs.Told.{Told, ◌with◌, number_told, values_told, read_told, judged_told, verdict_told}
+use Rattle.rules.specs.Told.{Told, ◌with◌, number_told, values_told, refusal_told, count_told, read_told, judged_told, verdict_told}
 use Rattle.rules.specs.declared.Verdict.{Verdict}
 use Rattle.told.specs.declared.Saying.{Saying}
 use Rattle.told.specs.declared.Saying.TheVariants.{Bare, One, Two, Three, Four}
-use Rattle.std.specs.Prelude.{Option, Some, None, Result, Ok, Err}
 use Rattle.rules.specs.declared.Refusal.{Refusal}
 
 -- a number with no to four values
@@ -15,6 +14,14 @@ said (One n a) = n with (a ∷ [])
 said (Two n a b) = n with (a ∷ b ∷ [])
 said (Three n a b c) = n with (a ∷ b ∷ c ∷ [])
 said (Four n a b c d) = n with (a ∷ b ∷ c ∷ d ∷ [])
+
+-- an answer that is a count is told, of whatever type, by what its counts come to
+abbrev pub Counts : {N : Type 0} → (N → ℕ → Type 0) → Result N Refusal → Told → Type 0
+Counts comes_to answer told = MatchResult answer (λ n. (v : ℕ) × comes_to n v × (told ≡ count_told (Ok v))) (λ r. told ≡ refusal_told r)
+
+-- of numbers it is told as the rules have it
+abbrev pub NumbersCount : Type 0
+NumbersCount = (answer : Result ℕ Refusal) (told : Told) → Counts (λ n v. v ≡ n) answer told → told ≡ count_told answer
 
 -- a value after those that are told
 infixl 15 ◌also◌

@@ -1,9 +1,9 @@
 // Each answer told as a number with values, in code; rules/specs/Told.antt has the same as definitions. For the probe.
 #![tactic(auto)]
 
-ghost use Rattle.std.specs.Prelude.{◌≡◌, ℕ, [], ◌∷◌, MatchResult};
-ghost use Rattle.rules.specs.Told.{◌with◌, refusal_told, schedule_told};
-ghost use Rattle.told.specs.Sayings.{said, read_probed, blocker_probed, misses_probed, verdict_probed, draw_probed, set_probed};
+ghost use Rattle.std.specs.Prelude.{◌≡◌};
+ghost use Rattle.rules.specs.Told.{refusal_told, schedule_told};
+ghost use Rattle.told.specs.Sayings.{said, Counts, read_probed, blocker_probed, misses_probed, verdict_probed, draw_probed, set_probed};
 
 use rules::{Carried, Refusal, Timing, Verdict};
 
@@ -45,7 +45,7 @@ pub fn say_read(answer: Result<u32, Refusal>, used: u64) -> Saying
 
 // An answer that is a count: a writer's, the sheet's reader's, the pattern's.
 pub fn say_count<N: Into<u64>>(answer: Result<N, Refusal>) -> Saying
-    ensures { MatchResult answer (λ n. (v : ℕ) × N.converts n v × (said result ≡ 0 with (v ∷ []))) (λ r. said result ≡ refusal_told r) }
+    ensures { Counts N.converts answer (said result) }
 {
     match answer {
         Ok(n) => Saying::One(0, n.into()),

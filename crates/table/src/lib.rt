@@ -15,6 +15,19 @@ pub const TABLE_MOST: usize = 4 * TASK_MOST;
 
 const WORD_MOST: u32 = 65535;
 
+// The task of number i.
+pub fn task_at(table: &[u32], i: usize) -> Task
+    requires { 4 * i + 3 < length table.now }
+    ensures { result ≡ task_in table.now i }
+{
+    Task {
+        C: table[4 * i],
+        D: table[4 * i + 1],
+        T: table[4 * i + 2],
+        R: table[4 * i + 3],
+    }
+}
+
 // The least value of the word at an index: R may be 0.
 #[tactic(auto, using(rules::proofs::TableSteps::least_r, rules::proofs::TableSteps::least_other))]
 pub fn word_least(i: usize) -> u32
@@ -93,11 +106,6 @@ impl<'a> Tasks<'a> {
         requires { i < task_count self.words.now }
         ensures { result ≡ task_in self.entry.words.now i }
     {
-        Task {
-            C: self.words[4 * i],
-            D: self.words[4 * i + 1],
-            T: self.words[4 * i + 2],
-            R: self.words[4 * i + 3],
-        }
+        task_at(self.words, i)
     }
 }

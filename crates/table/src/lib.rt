@@ -1,7 +1,7 @@
 // A table and its tasks: whether it is one, refusals 1 to 4; and the one reader of a task.
 #![tactic(auto)]
 
-ghost use Rattle.std.specs.Prelude.{◌≡◌, ◌≤◌, ◌<◌, length, Some, None, MatchResult};
+ghost use Rattle.std.specs.Prelude.{◌≡◌, ◌+◌, ◌*◌, ◌≤◌, ◌<◌, length, Some, None, MatchResult};
 ghost use Rattle.rules.specs.Numbers.{table_most};
 ghost use Rattle.rules.specs.Refusals.{answering};
 ghost use Rattle.rules.specs.Table.{word_least, in_range, out_of_range, table_refusal, table_answer, task_in, task_count, ValidTable};

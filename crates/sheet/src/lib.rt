@@ -46,6 +46,14 @@ impl Form for Sheet {
         if which == 3 { b"\r\n" } else { b"," }
     }
 
+    fn put_word(page: &mut Page, which: usize, n: u32) {
+        if which == 3 {
+            page.put_phrase(b"", n, b"\r\n");
+        } else {
+            page.put_phrase(b"", n, b",");
+        }
+    }
+
     ghost made = { sheet_is };
 
     ghost none = { records_none };

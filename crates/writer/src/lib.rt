@@ -43,6 +43,12 @@ pub trait Form {
         requires { which < 4 }
         ensures { (result.now ≡ after which) × (length (after which) ≤ 2) };
 
+    // A word is put at the page's place, with what stands before and after it.
+    fn put_word(page: &mut Page, which: usize, n: u32)
+        requires low { which < 4 }
+        requires room { Fits page.old (before which ++ (digits n ++ after which)) }
+        ensures { Adds page.old (before which ++ (digits n ++ after which)) page.new };
+
     ghost made: { (ws : List ℕ) → make ws ≡ first ws ++ words 0 ws };
 
     ghost none: { (ws : List ℕ) (k : ℕ) → length ws ≤ k → words k (drop k ws) ≡ [] };
@@ -84,6 +90,10 @@ impl Form for Text {
         b"\n"
     }
 
+    fn put_word(page: &mut Page, which: usize, n: u32) {
+        page.put_phrase(&TASK_KEYS[2 * which..2 * which + 2], n, b"\n");
+    }
+
     ghost made = { set_is };
 
     ghost none = { write_none };
@@ -111,8 +121,7 @@ fn put<F: Form>(tasks: Tasks, out: &mut [u8])
     let mut page = Page::new(out);
     F::put_first(tasks, &mut page);
     for (k, &n) in tasks.words.iter().enumerate() {
-        let which = k % 4;
-        page.put_phrase(F::before_word(which), n, F::after_word(which));
+        F::put_word(&mut page, k % 4, n);
     }
 }
 

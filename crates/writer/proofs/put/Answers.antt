@@ -15,10 +15,9 @@ loop-k-init g c =
 
 pub loop-k-preserved : goal.loop-k-preserved
 loop-k-preserved g c =
-    let word = rw (c.before_word.ensures.0, c.after_word.ensures.0) at c.put_phrase.ensures in
     record {
-      same = c.put_phrase.ensures.same ∙ c.loop-k.invariant.same;
-      to_come = less_to_come _ _ word c.loop-k.invariant.to_come (g.met.F.Form.more c.args.tasks.words.now c.loop-k.k (omega arith));
+      same = c.put_word.ensures.same ∙ c.loop-k.invariant.same;
+      to_come = less_to_come _ _ c.put_word.ensures c.loop-k.invariant.to_come (g.met.F.Form.more c.args.tasks.words.now c.loop-k.k (omega arith));
     }
 
 pub returns : goal.returns

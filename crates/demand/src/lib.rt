@@ -31,6 +31,7 @@ fn wait_of(task: Task, length: u32) -> u64
 }
 
 // What is due within a length.
+// Kept: three chains, each one definition's words; one over a closure would have to say by its calls what it adds up.
 fn due_at(tasks: Tasks, length: u32) -> u64
     ensures { (result ≡ total_due length (tasks_of tasks.entry.words.now)) × (result ≤ 2 ^ 55) }
 {
@@ -50,6 +51,7 @@ fn wait_at(tasks: Tasks, length: u32) -> u64
 }
 
 // By how much a length fails: its excess, or 0 where it passes.
+// Kept: 0 is no flag: a length that passes fails by 0, and where no task makes the others wait the longest wait is 0.
 pub fn excess_at(tasks: Tasks, length: u32) -> u64
     ensures { result ≡ fails_by length (tasks_of tasks.entry.words.now) }
 {

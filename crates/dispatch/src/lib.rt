@@ -24,6 +24,7 @@ fn count_jobs(tasks: Tasks<'_>, plan: Plan) -> usize
 }
 
 // Writes the rows of a plan's n jobs, four words a row, and tells of them.
+// Kept: tasks and plan apart: the callers have them apart, and only the walk needs the counters that `Waiting` has beside them.
 fn run(tasks: Tasks<'_>, plan: Plan, n: usize, rows: &mut [u64]) -> Timing
     requires n_value { n ≡ length (planned plan (tasks_of tasks.words.now)) }
     requires n_bound { n < 2 ^ 39 }
@@ -37,7 +38,7 @@ fn run(tasks: Tasks<'_>, plan: Plan, n: usize, rows: &mut [u64]) -> Timing
     };
     let mut t: u64 = 0;
     let mut late: Option<Late> = None;
-    // Kept: rows by their numbers, and not the parts of `rows.chunks_exact_mut(4)`: a proof knows no element of a slice that was written through them.
+    // Kept: rows by number, and not the parts of rows.chunks_exact_mut(4): a proof knows no element of a slice written through them.
     for k in 0..n {
         let turn = waiting.choose(t).unwrap();
         let job = Late {

@@ -13,7 +13,7 @@ use wording::Source;
 // The most bytes that are put: those of a text of 64 tasks, 9 for its first line and 8 for each of 256 words.
 pub const MADE_MOST: usize = 2057;
 
-// Kept: (d) a match on the source here and in write_table: the source is chosen as the program runs, and a trait for its two steps would be longer.
+// Kept: a match on the source here and in write_table: the source is chosen as the program runs, and a trait for its two steps would be longer.
 // The table of an input. There is room for 64 tasks, and no sheet or set has more.
 fn read_table(source: Source, input: &[u8], table: &mut [u32]) -> Result<u32, Refusal>
     requires { table_most ≤ length table.old }
@@ -35,7 +35,6 @@ fn write_table(source: Source, table: &[u32], out: &mut [u8]) -> Result<u32, Ref
     }
 }
 
-// Kept: (d) `as usize` of a u32 here and in exchange: std has no From<u32> for usize, and try_from would leave an error to handle.
 // What is made of an input that is not too long goes to the start of out; or the input or its table is refused.
 fn make(source: Source, input: &[u8], out: &mut [u8]) -> Result<u32, Refusal>
     requires { made_most ≤ length out.old }
@@ -47,6 +46,7 @@ fn make(source: Source, input: &[u8], out: &mut [u8]) -> Result<u32, Refusal>
 }
 
 // THE EXCHANGE. What becomes of an input goes to the start of out: so many bytes of the text or sheet that is made, or of the words for what is wrong.
+// Kept: the length and not the bytes, here and in the other calls that fill a lent `out`: their contracts may not change.
 pub fn exchange(source: Source, input: &[u8], out: &mut [u8]) -> Result<usize, usize>
     requires { made_most ≤ length out.old }
     ensures { Gives (exchanged source input.now) out.old result out.new }

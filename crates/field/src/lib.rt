@@ -112,6 +112,7 @@ pub fn read_record<'a, T: Taker>(s: &'a [u8], to: &mut T) -> Option<(usize, &'a 
 {
     let mut rest = s;
     let mut n: usize = 0;
+    // Kept: this loop walks the fields that are left; a `for` over their numbers would want a last one, which no reader knows before.
     loop {
         let field = next_field(rest)?;
         n += 1;

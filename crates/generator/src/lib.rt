@@ -1,6 +1,7 @@
 // The generator: its state is lent to each draw and moved on by it. Each call is thin, over one of `draws` on the number.
 // Two more take the generator by value and return it, over the lent ones.
-// Kept: document 01 asks for a one-number struct lent by `&mut`, thin over a covered function on the number: so a draw and a set's draw are here and in `draws`.
+// Kept: document 01 asks for a one-number struct lent by `&mut`, thin over a covered function on the number; so a draw and a set's draw
+// are here and in `draws`.
 #![tactic(auto)]
 
 ghost use Rattle.rules.specs.Generator.{Draws, DrawsSet};

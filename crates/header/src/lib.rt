@@ -12,6 +12,7 @@ pub use found::Header;
 use rules::{DEADLINE, EXECUTION, PERIOD, RELEASE};
 
 // The name of a column, by the place of its word in a task.
+// Kept: `which < 4`, a number and no enum: the definitions (name_of, key_of, after_word) take it, and the words are counted by it.
 pub fn column_name(which: usize) -> &'static [u8]
     requires { which < 4 }
     ensures { result.now ≡ name_of which }
@@ -25,6 +26,7 @@ pub fn column_name(which: usize) -> &'static [u8]
 }
 
 // Whether bytes are a name.
+// Kept: `==` by the definition's name: its contract is `is_name`, which note_name and its loop are stated by.
 pub fn is_name(body: &[u8], name: &[u8]) -> bool
     ensures { result ≡ is_name name.now body.now }
 {

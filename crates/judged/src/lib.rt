@@ -14,6 +14,7 @@ pub struct First {
 }
 
 // The first set of a text is judged, or refused by 7, after which nothing is left to read.
+// Kept: as the reader does, but with the verdict: a lent table is filled there and none is lent here (D63).
 pub fn judge_first(text: &[u8]) -> First
     ensures { Judges text.now result }
 {

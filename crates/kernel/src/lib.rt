@@ -31,6 +31,7 @@ fn field_number(body: &[u8]) -> Option<u32>
 }
 
 // The number in a column goes to each word whose column it is, if it is as due there.
+// Kept: by the number k, since columns and words are two arrays; a zip of the one with the other's `iter_mut` is no plainer.
 fn store_number(
     body: &[u8],
     column: usize,
@@ -48,6 +49,7 @@ fn store_number(
 }
 
 // A kernel's words, as far as their fields have come, by the columns of the four names.
+// Kept: two arrays of four side by side: the columns are the header's and stay, the words are filled for each record.
 #[derive(Clone, Copy)]
 struct Row {
     columns: [usize; 4],
@@ -93,7 +95,7 @@ pub fn read_kernels(header: Header<'_>, words: &mut [u32]) -> Result<usize, Refu
 {
     let mut rest = header.rest;
     let mut n: usize = 0;
-    // Kept: this loop walks the bytes that are left; a `for` over the tasks' places would ask twice whether the sheet has ended
+    // Kept: this loop walks the bytes that are left; a `for` over the tasks' places would ask twice whether the sheet has ended.
     while !rest.is_empty() {
         let record = (n + 2) as u32;
         if n == TASK_MOST {

@@ -6,6 +6,7 @@ ghost use Rattle.rules.specs.Text.{got, more_digits, read_number, read_line};
 ghost use Rattle.lines.specs.Line.{Skips, Finds, IsValueOf, NoDigit};
 
 // The bytes after a key, if s begins with it.
+// Kept: std's `strip_prefix`, as the definitions have it: its contract here is `Skips`, on which six calls stand.
 pub fn skip_key<'a>(s: &'a [u8], key: &[u8]) -> Option<&'a [u8]>
     ensures { Skips key.now s.now result }
 {
@@ -21,6 +22,7 @@ fn digit(b: u8) -> Option<u32>
 }
 
 // The number with at most four digits more, after the first; and the bytes after it.
+// Kept: by hand, and not by `parse`, which takes a `+` and any number of digits, and does not say where they end.
 fn more_digits<'a>(s: &'a [u8], first: u32) -> (u32, &'a [u8])
     requires { first < 10 }
     ensures { more_digits 4 first s.now ≡ got result.0 result.1.now }

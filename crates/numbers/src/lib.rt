@@ -8,6 +8,7 @@ ghost use Rattle.rules.specs.Told.{number_told, judged_told};
 use rules::{Carried, Refusal, Verdict};
 
 // A refusal's number.
+// Kept: the paper's numbers, for the C interface, the lines and the words; inside, a refusal is the enum.
 pub fn refusal_number(r: Refusal) -> u32
     ensures { result ≡ (entry r).number }
 {
@@ -39,6 +40,7 @@ pub fn refusal_carries(r: Refusal) -> Option<Carried>
 }
 
 // A verdict's number for the C call.
+// Kept: the paper's numbers, for the C interface; inside, a verdict is the enum.
 pub fn verdict_number(v: Verdict) -> u32
     ensures { result ≡ number_told (judged_told v) }
 {

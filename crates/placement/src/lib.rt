@@ -5,7 +5,7 @@ ghost use Rattle.std.specs.Prelude.{◌≡◌};
 ghost use Rattle.rules.specs.Answers.{check_number};
 
 // 100 meets, 101 misses, 102 too far, for the first set; or the number of the refusal, of the reading or of the table, at once.
-// Kept: (d) a match and not `let .. else`, whose else could not name the refusal.
+// Kept: a match and not `let .. else`, whose else could not name the refusal.
 #[tactic(auto, using(rules::proofs::Calls::check_number_law))]
 pub fn tile_check(text: &[u8]) -> u32
     ensures { result ≡ check_number text.now }

@@ -78,6 +78,7 @@ impl<'a> Page<'a> {
     {
         let end = self.at + width(n);
         let mut v = n;
+        // Kept: by the place i: once a slice's `iter_mut` is over, a proof knows no element that was written through it.
         for i in (self.at..end).rev() {
             self.out[i] = 48 + (v % 10) as u8;
             v /= 10;

@@ -18,7 +18,7 @@ use told::Saying;
 const ROOM: usize = 4;
 
 // What is returned where it has fewer.
-// Kept: (a) the C interface, by which a probe answers in numbers.
+// Kept: the C interface, by which a probe answers in numbers.
 const NO_ROOM: u32 = 999;
 
 // What a probe says is told where out has room; where it has not, the probe is not asked.

@@ -1,6 +1,6 @@
 // `probe`'s calls for C, for tests and benchmarks. A number is returned, and what the answer carries goes to the start of out. A refusal is its
 // number, with what it carries. An out shorter than 4 words gets 999, and nothing is done.
-// Kept: (a) the C interface: lent buffers and a number for what is told, one function a probe.
+// Kept: the C interface: lent buffers and a number for what is told, one function a probe.
 #![tactic(auto)]
 
 ghost use Rattle.std.specs.Prelude.{◌≡◌, ◌-◌, length};

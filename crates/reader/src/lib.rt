@@ -15,6 +15,7 @@ pub struct Reading<'a> {
 
 // THE READER. The first set of a text goes to the start of table. A refusal changes nothing of it, so the set is scanned into a table of its own
 // first.
+// Kept: the last lines are in sheet and report too; a function of them would be one call for two, with a contract to state.
 pub fn read<'a>(text: &'a [u8], table: &mut [u32]) -> Reading<'a>
     ensures { Reads text.now table.old result.answer result.rest.now table.new }
 {

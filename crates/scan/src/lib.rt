@@ -11,6 +11,7 @@ use rules::{Refusal, TASK_KEYS, TASKS_KEY};
 use table::TASK_MOST;
 
 // One of a task's four lines: its number, and what is left.
+// Kept: `which < 4`, as in header::column_name.
 fn task_line<'a>(s: &'a [u8], which: usize) -> Option<(u32, &'a [u8])>
     requires { which < 4 }
     ensures { Finds (read_line (key_of which) s.now) result }
@@ -36,6 +37,7 @@ fn task_lines<'a>(s: &'a [u8], words: &mut [u32]) -> Result<&'a [u8], Refusal>
 
 // The first set of a text goes straight to the start of words, which has room for any set: how many tasks it has, and the bytes after it. Where a
 // line is not as due, words may hold some of the set: it is for callers that own the table.
+// Kept: a slice with room for any set, and no array of 256 words: the contract of this call may not change, and a longer one may be lent.
 pub fn scan_set<'a>(text: &'a [u8], words: &mut [u32]) -> Result<(u32, &'a [u8]), Refusal>
     requires { table_most ≤ length words.old }
     ensures { Scans (read_set text.now) result words.new }

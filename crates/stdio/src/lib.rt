@@ -38,6 +38,7 @@ struct Tries(u32);
 
 impl Tries {
     // Whether the call that just failed is tried again: it was interrupted, or it would have had to wait. Then others may run first.
+    // Kept: a bool, which the match guards of the two loops ask; what is spent is counted here and handed to nobody.
     fn again(&mut self, why: &Error) -> bool
         ensures spent { IsTrue result → self.new.0 + 1 ≡ self.old.0 }
     {
@@ -53,7 +54,7 @@ impl Tries {
     }
 }
 
-// Kept: (d) read_input and write_output stay two loops: one over a closure would have to say by its steps what each stream's contract says at once.
+// Kept: read_input and write_output stay two loops: one over a closure would have to say by its steps what each stream's contract says at once.
 // Standard input is read to its end, however many reads that takes. The buffer is longer than the longest input, so one that fills it is too long.
 #[tactic(auto, using(crate::proofs::Known::read_adds))]
 pub fn read_input<R: Read>(input: &mut R, buf: &mut [u8]) -> Result<usize, InputError>
@@ -63,6 +64,7 @@ pub fn read_input<R: Read>(input: &mut R, buf: &mut [u8]) -> Result<usize, Input
 {
     let mut at: usize = 0;
     let mut tries = Tries(TRIES);
+    // Kept: `at` goes on by as much as a call moved, so that no range or chain is plainer.
     while at < buf.len() {
         match input.read(&mut buf[at..]) {
             Ok(0) => return Ok(at),
@@ -84,6 +86,7 @@ pub fn write_output<W: Write>(output: &mut W, bytes: &[u8]) -> Result<(), Output
 {
     let mut at: usize = 0;
     let mut tries = Tries(TRIES);
+    // Kept: `at` goes on by as much as a call moved, as in read_input.
     while at < bytes.len() {
         match output.write(&bytes[at..]) {
             Ok(0) => return Err(OutputError::Cut(at)),
@@ -131,6 +134,7 @@ fn tell_write<E: Write>(error: &mut E, written: usize, all: usize) {
 }
 
 // What standard input gives: its bytes, or as many as the buffer holds; where a read failed, nothing, and that is told, with what nothing was.
+// Kept: the streams one by one: each has a type of its own, and each function takes only those of the three that it uses.
 pub fn input_or_tell<'a, R: Read, E: Write>(
     input: &mut R,
     error: &mut E,

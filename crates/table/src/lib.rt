@@ -16,6 +16,7 @@ pub const TABLE_MOST: usize = 4 * TASK_MOST;
 const WORD_MOST: u32 = 65535;
 
 // The task of number i.
+// Kept: beside `Tasks::task`, which is this for a table that is not refused: its contract may not change, and this asks less.
 pub fn task_at(table: &[u32], i: usize) -> Task
     requires { 4 * i + 3 < length table.now }
     ensures { result ≡ task_in table.now i }

@@ -8,7 +8,7 @@ ghost use Rattle.told.specs.Sayings.{said, Counts, read_probed, blocker_probed, 
 use rules::{Carried, Refusal, Timing, Verdict};
 
 // A number with no to four values.
-// Kept: (d) an array of four with a length beside it is no plainer: here the variant says how many values there are.
+// Kept: an array of four with a length beside it is no plainer: here the variant says how many values there are.
 #[derive(Clone, Copy)]
 pub enum Saying {
     Bare(u32),
@@ -82,6 +82,7 @@ fn say_misses(length: u32, blocker: Option<u32>, over: u32) -> Saying
 }
 
 // A verdict.
+// Kept: the C interface's numbers, as Told.antt has them; `verdict_number` would be asked for what each arm knows.
 fn say_judged(verdict: Verdict) -> Saying
     ensures { said result ≡ verdict_probed (Ok verdict) }
 {

@@ -11,6 +11,7 @@ ghost use Rattle.trains.specs.Releases.{Comes, ComesOnce, released_before, due_w
 use rules::{Plan, Task};
 
 // Which jobs a task's train has: those that are released before an end tick; those that are due within a length, from a tick on; or one, at 0.
+// Kept: two matches on a train's reach, which is found as the program runs; a trait for its two steps would be longer.
 #[derive(Clone, Copy)]
 enum Reach {
     Before(u32),
@@ -34,6 +35,7 @@ fn reach_of(plan: Plan, k: usize) -> Reach
 // Kept: `requires { Sound task }` in six functions, and no invariant of a type: the definitions of document 01 make a rules::Task of any four words.
 
 // How many jobs of a task are released before an end tick.
+// Kept: two counts and two releases, each a definition of document 01; one of both would take what they differ in as arguments.
 #[tactic(auto, using(rules::proofs::TaskTrains::before_some, rules::proofs::TaskTrains::before_none))]
 fn count_before(task: Task, end: u32) -> u32
     requires { Sound task }

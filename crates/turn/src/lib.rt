@@ -18,6 +18,7 @@ pub struct Turn {
 }
 
 // The jobs of a plan that are not started: of each task the number of its next job is kept.
+// Kept: `next` beside the tasks, in fixed memory: the tasks' words are lent to be read, and only these numbers change.
 #[derive(Clone, Copy)]
 pub struct Waiting<'a> {
     pub tasks: Tasks<'a>,
@@ -44,6 +45,7 @@ impl<'a> Waiting<'a> {
     }
 
     // The next job to start, with the tile free from tick t on, if one is left.
+    // Kept: a loop over the tasks with `sooner`, and no chain with `min`: `min` in this loop took a fifth longer over 32 tasks.
     pub fn choose(&self, t: u64) -> Option<Turn>
         ensures { Best self.now.tasks.words.now self.now.plan self.now.next t (task_count self.now.tasks.words.now) 0 result }
     {

@@ -17,6 +17,7 @@ const SEED: u32 = 1;
 const DRAWN: u32 = 9;
 
 // What a text gives is printed.
+// Kept: tilecheck has this with its own words for a write that failed; here nobody is told.
 fn print_output<W: Write>(stdout: &mut W, text: &[u8]) {
     let mut out = [0u8; OUTPUT_MOST];
     let all = output::output(text, &mut out);

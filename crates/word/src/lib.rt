@@ -5,6 +5,7 @@ ghost use Rattle.std.specs.Prelude.{◌≡◌};
 ghost use Rattle.word.specs.Word.{number_in};
 
 // The number in a word: one or more decimal digits, with a value of at most most. A word with a greater value is read no further.
+// Kept: by hand, and not by `parse`, which is for a `str` and takes a `+` before the digits, where a word has digits alone.
 pub fn number_in(word: &[u8], most: u32) -> Option<u32>
     ensures { result ≡ number_in word.now most }
 {

@@ -22,6 +22,7 @@ fn put_place(page: &mut Page, source: Source, i: u32)
     requires { (i < table_most) × Fits page.old (place source i) }
     ensures { Adds page.old (place source i) page.new }
 {
+    // Kept: a match on the source, which is chosen as the program runs; only here do the words differ by it.
     match source {
         Source::Sheet => {
             page.put_phrase(b"record ", i / 4 + 2, b": ");
@@ -49,6 +50,7 @@ fn put_bad_record(page: &mut Page, l: u32)
     requires { Fits page.old (bad_record l) }
     ensures { Adds page.old (bad_record l) page.new }
 {
+    // Kept: 66 and no refusal of its own: a 65th record is refused by its number, whatever it holds (D51).
     let wrong: &[u8] = if l == 66 {
         b" is one too many: a tile has at most 64 kernels"
     } else {
@@ -58,6 +60,7 @@ fn put_bad_record(page: &mut Page, l: u32)
 }
 
 // What is wrong is put on a page.
+// Kept: `InTable refusal` in three functions, and no invariant of a type: the definitions make a rules::Refusal of any index.
 fn put_wrong(page: &mut Page, source: Source, refusal: Refusal)
     requires { InTable refusal × Fits page.old (wrong_in source refusal) }
     ensures { Adds page.old (wrong_in source refusal) page.new }

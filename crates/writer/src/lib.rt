@@ -34,6 +34,7 @@ pub trait Form {
         ensures { Adds page.old (first tasks.entry.words.now) page.new };
 
     // What stands before a word.
+    // Kept: `which < 4`, as in header::column_name.
     fn before_word(which: usize) -> &'static [u8]
         requires { which < 4 }
         ensures { (result.now ≡ before which) × (length (before which) ≤ 2) };
@@ -102,6 +103,7 @@ impl Form for Text {
 }
 
 // How long what is made of a table is.
+// Kept: a loop as in `put`, over the same words with the same `which`; its invariant has the bound that a sum would ask for.
 fn length_of<F: Form>(tasks: Tasks) -> usize
     ensures { (result ≡ length (F.make tasks.entry.words.now)) × (result < 100000) }
 {

@@ -23,6 +23,7 @@ use Rattle.rules.proofs.Lengths.{rest_fewer}
 use Rattle.promises.specs.Tables.{FirstTells, Prints, Run}
 use Rattle.promises.proofs.Judged.{first_tells}
 use Rattle.std.specs.Prelude.{Option, Some, None}
+use Rattle.std.proofs.lemmas.List.{nil_from_length}
 
 -- the lines of a verdict
 judged_prints : (v : Verdict) → Prints (judged_told v) (verdict_lines v)
@@ -63,11 +64,6 @@ set_lines_law n text t ls x p =
     let same = prints_once t ls (answer_lines (first_answer text)) p (rw told at (first_prints text)) in
     rw same (sym (lines_are n text))
 
--- nothing is left exactly if no byte is
-none_left : (l : List ℕ) → length l ≡ 0 → l ≡ []
-none_left [] e = refl
-none_left (b ∷ l) e = absurd (omega arith)
-
 some_left : (l : List ℕ) → (l ≡ [] → ⊥) → 0 < length l
 some_left [] n = absurd (n refl)
 some_left (b ∷ l) n = omega arith
@@ -78,7 +74,7 @@ module _ (n : ℕ) (text : List ℕ) where
   said = (first_tells text (verdict_told (first_answer text))).0 refl
 
   last_run : length (set_rest text) ≡ 0 → Run n text (set_lines n text)
-  last_run e = rw (lines_are n text) (Run.last said (first_prints text) (none_left (set_rest text) e))
+  last_run e = rw (lines_are n text) (Run.last said (first_prints text) (nil_from_length (set_rest text) e))
 
   more_run : 0 < length (set_rest text) → (printed : List ℕ) → Run (suc n) (set_rest text) printed → Run n text (set_lines n text ++ printed)
   more_run h printed r = rw (lines_are n text) (Run.more said (first_prints text) (λ e. let z = ap length e in omega arith) r)

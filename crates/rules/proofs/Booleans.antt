@@ -17,13 +17,6 @@ impossible e = absurd (omega arith)
 pub true_is_not_false : {A : Type 0} → ◌≡◌ {A = Bool} true false → A
 true_is_not_false e = impossible cc
 
-pub both : (a b : Bool) → a ≡ true → b ≡ true → a && b ≡ true
-both a b p q = rw (p, q)
-
-pub both_true : (a b : Bool) → a && b ≡ true → (a ≡ true) × (b ≡ true)
-both_true true b e = (refl, e)
-both_true false b e = (e, (cc))
-
 pub both_false : (a b : Bool) → a && b ≡ false → a ≡ true → b ≡ true → ⊥
 both_false a b e p q = true_is_not_false (rw (p, q) at e)
 

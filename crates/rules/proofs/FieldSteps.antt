@@ -3,21 +3,21 @@
 use Rattle.std.specs.Prelude.{if◌then◌else◌, Option, Some, None}
 use mathlib.Core.Path.{◌≡◌, refl, sym, ap, ap₂, ◌∙◌}
 use Prim.Native.Nat.{ℕ, ◌+◌, ◌≤◌, ◌<◌}
-use native.Mathlib.Numerals.{add-one}
 use native.Mathlib.Omega.{arith}
 use mathlib.Core.List.{List, [], ◌∷◌, ◌++◌, append-nil, append_assoc}
 use mathlib.Core.Bool.{Bool, true, false}
 use lib.Dec.{eqb}
 use lib.ListN.{length, take, drop, get_or, drop_of_length-le}
-use lib.Seq.{drop-cons, drop-drop, take-add}
+use lib.Seq.{drop-drop, take-add}
 use borrow.Author.Tests.{eq-eqb, ne_eqb}
 use Rattle.rules.specs.Text.{after_key}
 use Rattle.rules.specs.Sheet.{crlf, mark, Field, content, no_field, byte, read_plain, read_quoted, read_field, after_end, more, last, no_step, last_of, followed, Step, next_field}
 use Rattle.rules.specs.Sheets.{doubled}
 use Rattle.rules.specs.Standing.{standing, standing_step}
 use Rattle.rules.proofs.Booleans.{impossible, true_is_not_false}
-use Rattle.rules.proofs.ReadSteps.{empty, first_of}
+use Rattle.rules.proofs.ReadSteps.{first_of}
 use Rattle.rules.proofs.Records.{double_other}
+use Rattle.std.proofs.lemmas.List.{nil_from_length, drop_more}
 
 -- a mark
 module _ (b : ℕ) where
@@ -94,10 +94,6 @@ module _ (read : List ℕ → Field) (s : List ℕ) where
   unfolding Passed prefixed
   passed_nothing i p e = p ∙ ap (prefixed (take i s)) e
 
--- a byte at its place, before those after it
-at_place : (s : List ℕ) (i : ℕ) → i < length s → drop i s ≡ get_or s i 0 ∷ drop (i + 1) s
-at_place s i h = rw (add-one, drop-cons s i 0)
-
 -- a plain field, of which i bytes are passed
 module _ (s : List ℕ) (i : ℕ) (p : Passed read_plain s i) where
   pub plain_end : length s ≤ i → standing (read_plain s) ≡ content (take i s) (drop i s)
@@ -107,13 +103,13 @@ module _ (s : List ℕ) (i : ℕ) (p : Passed read_plain s i) where
   module _ (h : i < length s) where
     pub plain_mark : mark (get_or s i 0) ≡ true → standing (read_plain s) ≡ content (take i s) (drop i s)
     unfolding read_plain standing doubled
-    plain_mark m = passed_all read_plain s i (drop i s) p (rw (at_place s i h, m))
+    plain_mark m = passed_all read_plain s i (drop i s) p (rw (drop_more s i 0 h, m))
 
     pub plain_step : mark (get_or s i 0) ≡ false → Passed read_plain s (i + 1)
     unfolding Passed read_plain
     plain_step n =
         passed_more read_plain s i 1 p
-        (rw (at_place s i h, n) (standing_byte (get_or s i 0) (read_plain (drop (i + 1) s)) (other_than_quote (get_or s i 0) n)))
+        (rw (drop_more s i 0 h, n) (standing_byte (get_or s i 0) (read_plain (drop (i + 1) s)) (other_than_quote (get_or s i 0) n)))
 
 -- a quoted field after its first quote, of which i bytes are passed
 module _ (s : List ℕ) (i : ℕ) (p : Passed read_quoted s i) where
@@ -126,20 +122,20 @@ module _ (s : List ℕ) (i : ℕ) (p : Passed read_quoted s i) where
     unfolding Passed read_quoted
     quoted_step n =
         passed_more read_quoted s i 1 p
-        (rw (at_place s i h, ne_eqb (get_or s i 0) 34 n) (standing_byte (get_or s i 0) (read_quoted (drop (i + 1) s)) n))
+        (rw (drop_more s i 0 h, ne_eqb (get_or s i 0) 34 n) (standing_byte (get_or s i 0) (read_quoted (drop (i + 1) s)) n))
 
     module _ (q : get_or s i 0 ≡ 34) where
       pub quoted_last : i + 1 ≡ length s → standing (read_quoted s) ≡ content (take i s) (drop (i + 1) s)
       unfolding read_quoted standing doubled
       quoted_last e =
           let end : length s ≤ i + 1 = omega arith in
-          passed_all read_quoted s i (drop (i + 1) s) p (rw (at_place s i h, q, drop_of_length-le s end))
+          passed_all read_quoted s i (drop (i + 1) s) p (rw (drop_more s i 0 h, q, drop_of_length-le s end))
 
       module _ (k : i + 1 < length s) where
         pub quoted_closed : (get_or s (i + 1) 0 ≡ 34 → ⊥) → standing (read_quoted s) ≡ content (take i s) (drop (i + 1) s)
         unfolding read_quoted standing doubled
         quoted_closed n =
-            passed_all read_quoted s i (drop (i + 1) s) p (rw (at_place s i h, q, at_place s (i + 1) k, ne_eqb (get_or s (i + 1) 0) 34 n))
+            passed_all read_quoted s i (drop (i + 1) s) p (rw (drop_more s i 0 h, q, drop_more s (i + 1) 0 k, ne_eqb (get_or s (i + 1) 0) 34 n))
 
         pub quoted_twice : get_or s (i + 1) 0 ≡ 34 → Passed read_quoted s (i + 1 + 1)
         unfolding Passed read_quoted
@@ -147,13 +143,13 @@ module _ (s : List ℕ) (i : ℕ) (p : Passed read_quoted s i) where
             let two : i + 2 ≡ i + 1 + 1 = omega arith in
             rw (← two)
             (passed_more read_quoted s i 2 p
-            (rw (at_place s i h, q, at_place s (i + 1) k, e) (standing_quote (read_quoted (drop (i + 1 + 1) s)))))
+            (rw (drop_more s i 0 h, q, drop_more s (i + 1) 0 k, e) (standing_quote (read_quoted (drop (i + 1 + 1) s)))))
 
 -- a field by its first byte
 module _ (s : List ℕ) where
   pub field_none : length s ≡ 0 → read_field s ≡ read_plain s
   unfolding read_field read_plain
-  field_none e = rw (empty s e)
+  field_none e = rw (nil_from_length s e)
 
   module _ (p : 0 < length s) where
     pub field_plain : (get_or s 0 0 ≡ 34 → ⊥) → read_field s ≡ read_plain s
@@ -168,7 +164,7 @@ module _ (s : List ℕ) where
 module _ (s : List ℕ) where
   pub ends_sheet : length s ≡ 0 → after_end s ≡ Some s
   unfolding after_end
-  ends_sheet e = rw (empty s e)
+  ends_sheet e = rw (nil_from_length s e)
 
   module _ (p : 0 < length s) where
     pub ends_lf : get_or s 0 0 ≡ 10 → after_end s ≡ Some (drop 1 s)
@@ -218,7 +214,7 @@ module _ (s : List ℕ) where
 
     pub next_end : length r ≡ 0 → standing_step (next_field s) ≡ last_of c (after_end r)
     unfolding followed
-    next_end n = followed_standing (read_field s) ∙ ap followed (sym e) ∙ rw (empty r n)
+    next_end n = followed_standing (read_field s) ∙ ap followed (sym e) ∙ rw (nil_from_length r n)
 
     pub next_other : 0 < length r → (get_or r 0 0 ≡ 44 → ⊥) → standing_step (next_field s) ≡ last_of c (after_end r)
     unfolding followed

@@ -13,10 +13,10 @@ use Rattle.rules.specs.declared.Task.{Task}
 use Rattle.rules.specs.Dispatch.{Job}
 use Rattle.rules.specs.Legal.{Legal}
 use Rattle.rules.specs.Demand.{count_within, due, total_due, ceiling, work}
-use Rattle.rules.proofs.Booleans.{both_true}
 use Rattle.rules.proofs.Taken.{Taken, now, later}
 use Rattle.rules.proofs.Legal.{task_at_sound, legal_fits}
 use Rattle.rules.proofs.TasksFrom.{Rest, rest_all, rest_here, rest_next}
+use Rattle.std.proofs.lemmas.Bool.{and_parts}
 
 -- what a job that passes or fails a test adds to a total
 unfoldable pub amount : Bool → Job → ℕ
@@ -116,13 +116,13 @@ packed ts js l k (suc n) x p h =
 
     first : AllWithin js k x (task_at ts k).T (λ j. p j && near j)
     first j m e =
-        let b = both_true (p j) (near j) e in
+        let b = and_parts (p j) (near j) e in
         let w = h j m b.0 in
         record { task = w.task; low = w.low; high = ltb-true _ _ b.1 }
 
     rest : AllWithin js k (x + (task_at ts k).T) ((task_at ts k).T * n) (λ j. p j && not (near j))
     rest j m e =
-        let b = both_true (p j) (not (near j)) e in
+        let b = and_parts (p j) (not (near j)) e in
         let w = h j m b.0 in
         record { task = w.task; low = ltb-false _ _ (not-true _ b.1); high = omega (arith, mul-suc (task_at ts k).T n) }
 
@@ -153,14 +153,14 @@ module _ (ts : List Task) (js : List Job) (l : Legal ts js) (n : Task → ℕ) (
 
       first : AllWithin js k x ((task_at ts k).T * n (task_at ts k)) (λ j. p j && here j)
       first j m e =
-          let b = both_true (p j) (here j) e in
+          let b = and_parts (p j) (here j) e in
           let t : j.task ≡ k = eqb-true _ _ b.1 in
           let w = (h j m b.0).1 in
           record { task = t; low = w.low; high = rw t at w.high }
 
       rest : (j : Job) → Memᴰ j js → p j && not (here j) ≡ true → (suc k ≤ j.task) × Inside ts n x j
       rest j m e =
-          let b = both_true (p j) (not (here j)) e in
+          let b = and_parts (p j) (not (here j)) e in
           let ne : j.task ≡ k → ⊥ = eqb-false _ _ (not-true _ b.1) in
           let w = h j m b.0 in
           (omega arith, w.1)

@@ -11,10 +11,11 @@ use Rattle.rules.specs.Task.{tasks_of}
 use Rattle.rules.specs.declared.Task.{Task}
 use Rattle.rules.specs.Table.{task_in, task_count, ValidTable}
 use Rattle.rules.specs.Demand.{wait, longest_wait, first_waiting, blocker}
-use Rattle.rules.proofs.Booleans.{both, lt_or_ge}
+use Rattle.rules.proofs.Booleans.{lt_or_ge}
 use Rattle.rules.proofs.Verdicts.{wait_in, wait_out}
 use Rattle.rules.proofs.TasksLeft.{tasks_left, left_none, left_more, left_all}
 use Rattle.std.specs.Prelude.{Some}
+use Rattle.std.proofs.lemmas.Bool.{and_from}
 
 -- most is the longest wait of the tasks, numbered from k on, and task the first that has it
 pub record Longest (L k : ℕ) (ts : List Task) (most task : ℕ) : Type 0 where
@@ -40,7 +41,7 @@ module _ (L : ℕ) (τ : Task) (W : ℕ) where
 
   waits_so : wait L τ ≡ W → 0 < W → waits ≡ true
   waits_so e pos =
-      ⊎_elim (λ a. both _ _ a (eq-eqb _ _ (sym (wait_in L τ (ltb-true _ _ a)) ∙ e))) (λ a. absurd (omega (arith, wait_out L τ (leb-true _ _ a))))
+      ⊎_elim (λ a. and_from _ _ a (eq-eqb _ _ (sym (wait_in L τ (ltb-true _ _ a)) ∙ e))) (λ a. absurd (omega (arith, wait_out L τ (leb-true _ _ a))))
       (lt_or_ge L τ.D)
 
   waits_less : wait L τ < W → waits ≡ false

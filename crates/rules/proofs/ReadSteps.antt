@@ -11,13 +11,9 @@ use lib.ListN.{length, drop, get_or, drop_of_length-le}
 use lib.Seq.{drop-cons}
 use borrow.Author.Tests.{eq-eqb, ne_eqb, le-leb, lt-leb, leb-true}
 use Rattle.rules.specs.Text.{got, bad, after_key, digit, more_digits, read_number, line_end, number_line, read_line}
-use Rattle.rules.proofs.Booleans.{both_true}
 use Rattle.std.specs.Prelude.{Some, None}
-
--- bytes of length 0
-pub empty : (s : List ℕ) → length s ≡ 0 → s ≡ []
-empty [] h = refl
-empty (b ∷ s) h = absurd (omega (arith, h))
+use Rattle.std.proofs.lemmas.Bool.{and_parts}
+use Rattle.std.proofs.lemmas.List.{nil_from_length}
 
 -- the first byte, and the others
 pub first_of : (s : List ℕ) → 0 < length s → s ≡ get_or s 0 0 ∷ drop 1 s
@@ -55,7 +51,7 @@ module _ (b : ℕ) where
   pub digit_range : digit b ≡ true → (48 ≤ b) × (b ≤ 57)
   unfolding digit
   digit_range e =
-      let f = both_true (leb 48 b) (leb b 57) e in
+      let f = and_parts (leb 48 b) (leb b 57) e in
       (leb-true 48 b f.0, leb-true b 57 f.1)
 
 -- digits after those that make v, of which n may still come
@@ -67,7 +63,7 @@ module _ (v : ℕ) (t : List ℕ) where
   pub more_none : (n : ℕ) → length t ≡ 0 → more_digits n v t ≡ got v t
   unfolding more_digits
   more_none zero e = refl
-  more_none (suc n) e = rw (empty t e)
+  more_none (suc n) e = rw (nil_from_length t e)
 
   module _ (p : 0 < length t) where
     pub more_other : (n : ℕ) → digit (get_or t 0 0) ≡ false → more_digits n v t ≡ got v t
@@ -84,7 +80,7 @@ module _ (v : ℕ) (t : List ℕ) where
 module _ (t : List ℕ) where
   pub number_none : length t ≡ 0 → read_number t ≡ bad
   unfolding read_number
-  number_none e = rw (empty t e)
+  number_none e = rw (nil_from_length t e)
 
   module _ (p : 0 < length t) where
     pub number_wrong : digit (get_or t 0 0) ≡ false → read_number t ≡ bad
@@ -107,7 +103,7 @@ end_bad = refl
 module _ (v : ℕ) (t : List ℕ) where
   pub end_none : length t ≡ 0 → line_end (got v t) ≡ bad
   unfolding line_end
-  end_none e = rw (empty t e)
+  end_none e = rw (nil_from_length t e)
 
   pub end_wrong : 0 < length t → (get_or t 0 0 ≡ 10 → ⊥) → line_end (got v t) ≡ bad
   unfolding line_end

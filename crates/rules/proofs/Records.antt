@@ -12,8 +12,9 @@ use borrow.Author.Tests.{eq-eqb, ne_eqb, eqb-true}
 use Rattle.rules.specs.Text.{got, bad, after_key, digit, more_digits, read_number}
 use Rattle.rules.specs.Sheet.{mark, Field, content, no_field, byte, read_plain, read_quoted, after_quote, read_field, after_end, Step, more, last, no_step, last_of, followed, next_field, Record, fields, no_record, before, onward, record_within, read_record, name_of, none_left, is_name, whole, field_number}
 use Rattle.rules.specs.Sheets.{doubled}
-use Rattle.rules.proofs.Booleans.{impossible, true_is_not_false, both_true, chosen}
+use Rattle.rules.proofs.Booleans.{impossible, true_is_not_false, chosen}
 use Rattle.rules.proofs.ReadSteps.{digit_range}
+use Rattle.std.proofs.lemmas.Bool.{and_parts}
 
 -- how many bytes a field leaves
 left : Field → ℕ
@@ -152,10 +153,10 @@ unfolding after_key quoteless doubled
 name_doubled [] [] q = refl
 name_doubled [] (b ∷ c) q = let f = double_first b c in ap (λ (x : List ℕ). none_left (Some x)) f.1
 name_doubled (k ∷ ks) [] q = refl
-name_doubled (k ∷ ks) (b ∷ c) q = by_byte (eqb b k) refl (name_doubled ks c (both_true (not (eqb k 34)) (quoteless ks) q).1)
+name_doubled (k ∷ ks) (b ∷ c) q = by_byte (eqb b k) refl (name_doubled ks c (and_parts (not (eqb k 34)) (quoteless ks) q).1)
   where
     other : b ≡ k → b ≡ 34 → ⊥
-    other same f = true_is_not_false (sym (both_true (not (eqb k 34)) (quoteless ks) q).0 ∙ ap not (eq-eqb k 34 (sym same ∙ f)))
+    other same f = true_is_not_false (sym (and_parts (not (eqb k 34)) (quoteless ks) q).0 ∙ ap not (eq-eqb k 34 (sym same ∙ f)))
 
     by_byte : (t : Bool) → eqb b k ≡ t → none_left (after_key ks (doubled c)) ≡ none_left (after_key ks c)
         → none_left (after_key (k ∷ ks) (doubled (b ∷ c))) ≡ none_left (if t then after_key ks c else None)

@@ -16,17 +16,18 @@ use Rattle.rules.specs.Numbers.{table_most, word_most}
 use Rattle.rules.specs.Table.{word_least, in_range, out_of_range, table_refusal, Ranged, FirstOut, Fine}
 use Rattle.rules.specs.declared.Refusal.{Refusal}
 use Rattle.rules.specs.declared.Refusal.TheVariants.{NoWord, NotFours, TooManyWords, OutOfRange}
-use Rattle.rules.proofs.Booleans.{both, both_true, true_is_not_false}
+use Rattle.rules.proofs.Booleans.{true_is_not_false}
+use Rattle.std.proofs.lemmas.Bool.{and_parts, and_from}
 
 range_true : (i x : ℕ) → in_range i x ≡ true → Ranged i x
 unfolding in_range word_least
 range_true i x e =
-    let b = both_true (leb (word_least i) x) (leb x word_most) e in
+    let b = and_parts (leb (word_least i) x) (leb x word_most) e in
     record { low = λ h. leb-true 1 x (rw (ne_eqb (i % 4) 3 (omega arith)) at b.0); high = leb-true _ _ b.1 }
 
 true_range : (i x : ℕ) → Ranged i x → in_range i x ≡ true
 unfolding in_range word_least
-true_range i x r = both (leb (word_least i) x) (leb x word_most) (go (eqb (i % 4) 3) refl) (le-leb _ _ r.high)
+true_range i x r = and_from (leb (word_least i) x) (leb x word_most) (go (eqb (i % 4) 3) refl) (le-leb _ _ r.high)
   where
     go : (b : Bool) → eqb (i % 4) 3 ≡ b → leb (if b then 0 else 1) x ≡ true
     go true e = le-leb 0 x (omega arith)

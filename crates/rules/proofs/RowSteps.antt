@@ -12,8 +12,9 @@ use borrow.Author.Tests.{eq-eqb, ne_eqb}
 use Rattle.rules.specs.Numbers.{task_most}
 use Rattle.rules.specs.Text.{got, bad, read_number}
 use Rattle.rules.specs.Sheet.{Record, fields, no_record, read_record, whole, field_number, also, numbers_in, Row, row, no_row, row_of, read_row, Sheet, tasks, wrong, no_header, words_ahead, or_wrong, at_record, read_tasks}
-use Rattle.rules.proofs.ReadSteps.{empty, first_of}
+use Rattle.rules.proofs.ReadSteps.{first_of}
 use Rattle.rules.proofs.Records.{befores, befores_fields, befores_nothing}
+use Rattle.std.proofs.lemmas.List.{nil_from_length}
 
 -- a field's number, by what is read at its start
 module _ (c : List ℕ) where
@@ -25,7 +26,7 @@ module _ (c : List ℕ) where
     -- nothing is left
     pub whole_number : length s ≡ 0 → field_number c ≡ Some v
     unfolding field_number whole
-    whole_number n = rw (e, empty s n)
+    whole_number n = rw (e, nil_from_length s n)
 
     -- some bytes are
     pub number_and_more : (length s ≡ 0 → ⊥) → field_number c ≡ None
@@ -104,8 +105,8 @@ module _ (count : ℕ) (columns : List ℕ) (n : ℕ) (ws t : List ℕ) where
   tasks_done e = ap (words_ahead ws) (none_left (task_most - n)) ∙ ap tasks (append-nil ws)
     where
       none_left : (m : ℕ) → read_tasks count columns m (n + 2) t ≡ tasks []
-      none_left zero = rw (empty t e)
-      none_left (suc m) = rw (empty t e)
+      none_left zero = rw (nil_from_length t e)
+      none_left (suc m) = rw (nil_from_length t e)
 
   module _ (p : 0 < length t) where
     -- one too many

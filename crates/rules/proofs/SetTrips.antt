@@ -10,9 +10,9 @@ use lib.ListN.{length, get_or}
 use borrow.Author.Tests.{leb-true, le-leb}
 use Rattle.rules.specs.Table.{table_refusal}
 use Rattle.rules.specs.Text.{Read, got, bad, Lines, took, stop, ahead, or_stop, key_of, tasks_key, read_line, read_lines, read_set, digits, line, write_lines, write_set}
-use Rattle.rules.proofs.Booleans.{both_true}
 use Rattle.rules.proofs.Tables.{valid_of}
 use Rattle.rules.proofs.LineTrips.{line_there, line_back}
+use Rattle.std.proofs.lemmas.Bool.{and_parts}
 
 -- words that a line can hold
 unfoldable pub Small : List ℕ → Type 0
@@ -95,7 +95,7 @@ set_back s ws rest e = with_first (read_line tasks_key s) refl e
         let w = lines_back (4 * n) 0 a ws rest e in
         let m = w.many in
         let d : n ≡ length ws / 4 = omega arith in
-        let x = both_true (leb 1 n) (leb n 64) t in
+        let x = and_parts (leb 1 n) (leb n 64) t in
         record {
           text = (line_back tasks_key s n a l).text ∙ ap₂ (λ (i : ℕ) (r : List ℕ). line tasks_key (digits i) ++ r) d w.text ∙ sym (append_assoc (line tasks_key (digits (length ws / 4))) (write_lines 0 ws) rest);
           tasks = n;

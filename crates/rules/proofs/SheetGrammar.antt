@@ -17,21 +17,18 @@ use Rattle.rules.specs.Sheets.{doubled, Stands, Commas, Begins}
 use Rattle.rules.proofs.Booleans.{impossible}
 use Rattle.rules.proofs.LineTrips.{key_there, key_back}
 use Rattle.rules.proofs.Records.{double_other, more_shorter, record_more, record_last, record_none}
+use Rattle.std.proofs.lemmas.Bool.{or_parts}
 
 -- no quote, comma, CR or LF
 abbrev pub Plain : ℕ → Type 0
 Plain b = (b ≡ 34 → ⊥) × (b ≡ 44 → ⊥) × (b ≡ 13 → ⊥) × (b ≡ 10 → ⊥)
 
-neither : (a b : Bool) → a || b ≡ false → (a ≡ false) × (b ≡ false)
-neither true b e = (e, (cc))
-neither false b e = (refl, e)
-
 pub plain_byte : (b : ℕ) → mark b ≡ false → Plain b
 unfolding mark
 plain_byte b e =
-    let q = neither (eqb b 34) (eqb b 44 || (eqb b 13 || eqb b 10)) e in
-    let c = neither (eqb b 44) (eqb b 13 || eqb b 10) q.1 in
-    let r = neither (eqb b 13) (eqb b 10) c.1 in
+    let q = or_parts (eqb b 34) (eqb b 44 || (eqb b 13 || eqb b 10)) e in
+    let c = or_parts (eqb b 44) (eqb b 13 || eqb b 10) q.1 in
+    let r = or_parts (eqb b 13) (eqb b 10) c.1 in
     (eqb-false b 34 q.0, eqb-false b 44 c.0, eqb-false b 13 r.0, eqb-false b 10 r.1)
 
 no_mark : (b : ℕ) → Plain b → mark b ≡ false

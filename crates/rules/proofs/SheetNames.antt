@@ -13,9 +13,10 @@ use borrow.Author.Tests.{eq-eqb, eqb-true}
 use Rattle.rules.specs.Text.{bytes, Read, got, bad, after_key, read_number, digits}
 use Rattle.rules.specs.Sheet.{name_of, none_left, is_name, times, column_from, good_header, whole, field_number}
 use Rattle.rules.specs.Sheets.{Once}
-use Rattle.rules.proofs.Booleans.{impossible, true_is_not_false, both, both_true}
+use Rattle.rules.proofs.Booleans.{impossible, true_is_not_false}
 use Rattle.rules.proofs.ReadSteps.{more_none}
 use Rattle.rules.proofs.LineTrips.{number_back, number_stops, key_there, key_back}
+use Rattle.std.proofs.lemmas.Bool.{and_parts, and_from}
 
 -- NAMES
 pub name_exact : (name h : List ℕ) → (is_name name h ≡ true) ↔ (h ≡ name)
@@ -102,16 +103,16 @@ pub header_exact : (hs : List (List ℕ))
 unfolding good_header
 header_exact hs = (
   λ good.
-      let first = both_true (counted 0) (counted 1 && (counted 2 && counted 3)) good in
-      let second = both_true (counted 1) (counted 2 && counted 3) first.1 in
-      let third = both_true (counted 2) (counted 3) second.1 in
+      let first = and_parts (counted 0) (counted 1 && (counted 2 && counted 3)) good in
+      let second = and_parts (counted 1) (counted 2 && counted 3) first.1 in
+      let third = and_parts (counted 2) (counted 3) second.1 in
       (once 0 first.0, once 1 second.0, once 2 third.0, once 3 third.1),
   λ names.
-      both
+      and_from
       (counted 0)
       (counted 1 && (counted 2 && counted 3))
       (one 0 names.0)
-      (both (counted 1) (counted 2 && counted 3) (one 1 names.1) (both (counted 2) (counted 3) (one 2 names.2) (one 3 names.3))),
+      (and_from (counted 1) (counted 2 && counted 3) (one 1 names.1) (and_from (counted 2) (counted 3) (one 2 names.2) (one 3 names.3))),
 )
   where
     counted : ℕ → Bool

@@ -15,11 +15,11 @@ use Rattle.rules.specs.Table.{table_refusal}
 use Rattle.rules.specs.Text.{bytes, after_key, digits_within, digits}
 use Rattle.rules.specs.Sheet.{mark, fields, read_record, name_of, is_name, times, column_from, good_header, columns_of, also, numbers_in, row, row_of, read_row, Sheet, tasks, words_ahead, or_wrong, at_record, read_tasks, under_header, read_sheet, write_records, write_sheet}
 use Rattle.rules.specs.Sheets.{Stands, Commas, Begins}
-use Rattle.rules.proofs.Booleans.{both, both_true}
 use Rattle.rules.proofs.Tables.{valid_of}
 use Rattle.rules.proofs.SetTrips.{Small, small_of}
 use Rattle.rules.proofs.SheetGrammar.{Plain, plain_byte, record_exact}
 use Rattle.rules.proofs.SheetNames.{number_exact}
+use Rattle.std.proofs.lemmas.Bool.{and_parts, and_from}
 
 -- bytes with no mark among them
 unfoldable markless : List ℕ → Bool
@@ -29,7 +29,7 @@ markless (b ∷ c) = not (mark b) && markless c
 markless_plain : (c : List ℕ) → markless c ≡ true → (b : ℕ) → Memᴰ b c → Plain b
 unfolding markless
 markless_plain [] e b m = absurd (Memᴰ.not-nil m)
-markless_plain (a ∷ c) e b m = by_place m (both_true (not (mark a)) (markless c) e) (markless_plain c)
+markless_plain (a ∷ c) e b m = by_place m (and_parts (not (mark a)) (markless c) e) (markless_plain c)
   where
     no_mark : (t : Bool) → not t ≡ true → t ≡ false
     no_mark true e = sym e
@@ -50,8 +50,8 @@ markless_append : (c d : List ℕ) → markless c ≡ true → markless d ≡ tr
 unfolding markless
 markless_append [] d e f = f
 markless_append (b ∷ c) d e f =
-    let g = both_true (not (mark b)) (markless c) e in
-    both (not (mark b)) (markless (c ++ d)) g.0 (markless_append c d g.1 f)
+    let g = and_parts (not (mark b)) (markless c) e in
+    and_from (not (mark b)) (markless (c ++ d)) g.0 (markless_append c d g.1 f)
 
 -- a digit is no mark
 digit_markless : (v : ℕ) → v < 10 → markless ((48 + v) ∷ []) ≡ true

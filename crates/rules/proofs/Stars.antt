@@ -19,7 +19,7 @@ use Rattle.rules.specs.Demand.{count_within, due, total_due, wait, longest_wait,
 use Rattle.rules.specs.Answers.{schedule_rows, is_misses, named_by, pattern_rows, schedule_answer, schedule_buffer, verdict_answer, pattern_answer, pattern_buffer}
 use Rattle.rules.specs.Stars.{set, Outcome, meets, misses, on_time, pattern, Star, stars, Right, Stars}
 use Rattle.rules.specs.declared.Verdict.{Verdict}
-use Rattle.rules.proofs.Booleans.{both_true, true_is_not_false}
+use Rattle.rules.proofs.Booleans.{true_is_not_false}
 use Rattle.rules.proofs.Tables.{table_sound}
 use Rattle.rules.proofs.RowWords.{length_row_words}
 use Rattle.rules.proofs.Calls.{counted, dispatch_rows, schedule_rows_law, pattern_rows_law}
@@ -27,6 +27,7 @@ use Rattle.rules.proofs.Search.{found, none_found}
 use Rattle.rules.proofs.BelowTheSpan.{least_below}
 use Rattle.rules.proofs.Verdicts.{First, NoneIn, none_when, misses_when, meets_when}
 use Rattle.std.specs.Prelude.{Option, Some, None, Ok}
+use Rattle.std.proofs.lemmas.Bool.{and_parts}
 
 -- tests of equality
 abbrev nothing : {A : Type 0} → Option A → Bool
@@ -62,7 +63,7 @@ alike_true [] [] e = refl
 alike_true [] (y ∷ ys) e = true_is_not_false (sym e)
 alike_true (x ∷ xs) [] e = true_is_not_false (sym e)
 alike_true (x ∷ xs) (y ∷ ys) e =
-    let b = both_true (eqb x y) (alike xs ys) e in
+    let b = and_parts (eqb x y) (alike xs ys) e in
     let p = eqb-true x y b.0 in
     let q = alike_true xs ys b.1 in
     cc
@@ -103,7 +104,7 @@ Each (b ∷ bs) = (b ≡ true) × Each bs
 
 each : (bs : List Bool) → every bs ≡ true → Each bs
 each [] e = tt
-each (b ∷ bs) e = let x = both_true b (every bs) e in (x.0, each bs x.1)
+each (b ∷ bs) e = let x = and_parts b (every bs) e in (x.0, each bs x.1)
 
 -- a set that closes at σ and of which no length below σ fails meets, with that span where it is the first to close
 module _ (ts : List Task) (sound : AllSound ts) where
@@ -181,9 +182,9 @@ passes (s ∷ ss) = every (row_tests s) && passes ss
 rows_right : (ss : List Star) → passes ss ≡ true → (s : Star) → Memᴰ s ss → Right (set s.tasks) s.outcome
 rows_right [] e s m = absurd (Memᴰ.not-nil m)
 rows_right (r ∷ ss) e s (Memᴰ.head q) =
-    let x = each (row_tests r) (both_true (every (row_tests r)) (passes ss) e).0 in
+    let x = each (row_tests r) (and_parts (every (row_tests r)) (passes ss) e).0 in
     rw q (right (set r.tasks) r.outcome (nothing_true _ x.0) x.1)
-rows_right (r ∷ ss) e s (Memᴰ.tail m) = rows_right ss (both_true (every (row_tests r)) (passes ss) e).1 s m
+rows_right (r ∷ ss) e s (Memᴰ.tail m) = rows_right ss (and_parts (every (row_tests r)) (passes ss) e).1 s m
 
 -- they all pass
 table_passes : passes stars ≡ true

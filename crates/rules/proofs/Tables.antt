@@ -18,7 +18,7 @@ use Rattle.rules.specs.Numbers.{word_most}
 use Rattle.rules.specs.Table.{word_least, in_range, out_of_range, table_refusal, task_in, tasks_from, Valid}
 use Rattle.rules.specs.declared.Refusal.{Refusal}
 use Rattle.rules.specs.declared.Refusal.TheVariants.{NoWord, NotFours, TooManyWords, OutOfRange}
-use Rattle.rules.proofs.Booleans.{both_true}
+use Rattle.std.proofs.lemmas.Bool.{and_parts}
 
 -- a refusal is not none
 some_is_not_none : {A : Type 0} {r : Refusal} → ◌≡◌ {A = Option Refusal} (Some r) None → A
@@ -50,12 +50,12 @@ range_low : (i x : ℕ) → in_range i x ≡ true → (i % 4 < 3) → 1 ≤ x
 unfolding in_range word_least
 range_low i x e h =
     let n : eqb (i % 4) 3 ≡ false = ne_eqb (i % 4) 3 (omega arith) in
-    let b = both_true (leb (word_least i) x) (leb x word_most) e in
+    let b = and_parts (leb (word_least i) x) (leb x word_most) e in
     leb-true _ _ (rw n at b.0)
 
 range_high : (i x : ℕ) → in_range i x ≡ true → x ≤ 65535
 unfolding in_range
-range_high i x e = leb-true _ _ (both_true (leb (word_least i) x) (leb x word_most) e).1
+range_high i x e = leb-true _ _ (and_parts (leb (word_least i) x) (leb x word_most) e).1
 
 -- a table that is not refused, in bounds
 pub valid_of : (w : List ℕ) → table_refusal w ≡ None → Valid w (length w / 4)

@@ -9,7 +9,8 @@ use borrow.Author.Tests.{eqb-true, eq-eqb}
 use lib.Dec.{eqb}
 use lib.ListN.{length}
 use Rattle.rules.specs.Dispatch.{Job, same, without}
-use Rattle.rules.proofs.Booleans.{both, both_true, both_false, true_is_not_false}
+use Rattle.rules.proofs.Booleans.{both_false, true_is_not_false}
+use Rattle.std.proofs.lemmas.Bool.{and_parts, and_from}
 
 -- what holds of the head and of every job of the tail holds of every job
 pub mem_cons : (P : Job → Type 0) {j : Job} {js : List Job} → P j → ((i : Job) → Memᴰ i js → P i)
@@ -50,7 +51,7 @@ taken_length (later t) = ap suc (taken_length t)
 pub same_true : (i j : Job) → same i j ≡ true → (i.task ≡ j.task) × (i.number ≡ j.number)
 unfolding same
 same_true i j e =
-    let h = both_true (eqb i.task j.task) (eqb i.number j.number) e in
+    let h = and_parts (eqb i.task j.task) (eqb i.number j.number) e in
     (eqb-true _ _ h.0, eqb-true _ _ h.1)
 
 pub same_false : (i j : Job) → same i j ≡ false → i.task ≡ j.task → i.number ≡ j.number → ⊥
@@ -59,7 +60,7 @@ same_false i j e p q = both_false _ _ e (eq-eqb _ _ p) (eq-eqb _ _ q)
 
 pub same_self : (j : Job) → same j j ≡ true
 unfolding same
-same_self j = both _ _ (eq-eqb j.task j.task refl) (eq-eqb j.number j.number refl)
+same_self j = and_from _ _ (eq-eqb j.task j.task refl) (eq-eqb j.number j.number refl)
 
 -- any two places of the list have jobs that differ in task or number
 abbrev pub Distinct : List Job → Type 0

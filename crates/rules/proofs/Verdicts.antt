@@ -15,9 +15,10 @@ use Rattle.rules.specs.declared.Task.{Task}
 use Rattle.rules.specs.Numbers.{horizon}
 use Rattle.rules.specs.Demand.{count_within, due, total_due, wait, longest_wait, fails, excess, ceiling, work, closes, first_fail, span, blocker, judge, verdict}
 use Rattle.rules.specs.declared.Verdict.{Verdict}
-use Rattle.rules.proofs.Booleans.{both, both_true, true_is_not_false, lt_or_ge}
+use Rattle.rules.proofs.Booleans.{true_is_not_false, lt_or_ge}
 use Rattle.rules.proofs.Search.{found, finds, none_found, finds_none}
 use Rattle.std.specs.Prelude.{Option, Some, None}
+use Rattle.std.proofs.lemmas.Bool.{and_parts, and_from}
 
 -- x is the least number from 1 to H that passes
 pub record First (p : ℕ → Bool) (x : ℕ) : Type 0 where
@@ -48,7 +49,7 @@ module _ (ts : List Task) where
   pub fails_when : (L : ℕ) → (fails L ts ≡ true) ↔ ((1 ≤ total_due L ts) × (L < total_due L ts + longest_wait L ts))
   unfolding fails
   fails_when L =
-      (λ e. let h = both_true _ _ e in (leb-true _ _ h.0, ltb-true _ _ h.1), λ h. both _ _ (le-leb _ _ h.0) (lt-ltb _ _ h.1))
+      (λ e. let h = and_parts _ _ e in (leb-true _ _ h.0, ltb-true _ _ h.1), λ h. and_from _ _ (le-leb _ _ h.0) (lt-ltb _ _ h.1))
 
   -- the test on a length, by what is due
   pub fails_not : (L : ℕ) → total_due L ts < 1 → fails L ts ≡ false

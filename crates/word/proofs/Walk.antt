@@ -12,8 +12,9 @@ use lib.Seq.{drop-cons}
 use borrow.Author.Tests.{le-leb, lt-leb}
 use Rattle.std.specs.Char.{digit_value, NotDecimalDigitIn, IsDigitOf}
 use Rattle.rules.specs.Text.{digit}
-use Rattle.rules.proofs.ReadSteps.{empty, first_of, below_digits, above_digits, a_digit}
+use Rattle.rules.proofs.ReadSteps.{first_of, below_digits, above_digits, a_digit}
 use Rattle.word.specs.Word.{value_from, judged, number_in}
+use Rattle.std.proofs.lemmas.List.{nil_from_length}
 
 -- std's digits are the rules'
 pub no_digit : (b : ℕ) {k : ℕ} → k ≡ b → NotDecimalDigitIn 10 k → digit b ≡ false
@@ -42,7 +43,7 @@ module _ (word : List ℕ) (most : ℕ) where
   -- a word of no byte
   pub at_none : length word ≡ 0 → None ≡ number_in word most
   unfolding number_in
-  at_none e = rw (empty word e)
+  at_none e = rw (nil_from_length word e)
 
   -- the first byte
   pub at_first : 0 < length word → ReadTo 0 0

@@ -1,27 +1,14 @@
 -- Parts and copies of a list, as code makes them.
 use mathlib.Core.Path.{◌≡◌, sym, ap, ap₂, ◌∙◌}
-use Prim.Native.Nat.{ℕ, ◌+◌, ◌-◌, ◌*◌, ◌≤◌, ◌<◌}
-use native.Mathlib.Numerals.{add-one, add-two, add-three}
-use native.Mathlib.Nat.{zero-add}
+use Prim.Native.Nat.{ℕ, ◌+◌, ◌-◌, ◌*◌, ◌≤◌}
 use native.Mathlib.Omega.{arith}
 use mathlib.Core.List.{List, [], ◌∷◌, ◌++◌, append-nil, append_assoc}
-use lib.ListN.{length, take, drop, get_or, set, length-append, length-drop}
-use lib.Seq.{length-take-le, take_all, take_at, drop_at, drop-drop, take-length, drop-length, paste-suc, sets-eq}
+use lib.ListN.{length, take, drop, length-append, length-drop}
+use lib.Seq.{length-take-le, take_all, take_at, drop_at, drop-drop, take-length, drop-length}
 
 -- what `&s[a..]` is
 pub part : (a : ℕ) (s : List ℕ) → take (length s - a) (drop a s) ≡ drop a s
 part a s = take_all (length s - a) (drop a s) (omega (arith, length-drop a s))
-
--- one value more is copied to the start of a list
-pub copied : (old vs : List ℕ) (i : ℕ) → i < length old → i < length vs
-    → set (take i vs ++ drop i old) i (get_or vs i 0) ≡ take (i + 1) vs ++ drop (i + 1) old
-copied old vs i h k = rw add-one (simp zero-add at (paste-suc old 0 vs i 0 (omega arith) k))
-
--- four stores
-pub four : (l : List ℕ) (i a b c d : ℕ) → i + 3 < length l
-    → set (set (set (set l i a) (i + 1) b) (i + 2) c) (i + 3) d ≡ take i l ++ (a ∷ b ∷ c ∷ d ∷ drop (i + 4) l)
-four l i a b c d h =
-    rw (add-one, add-two, add-three) (sets-eq (a ∷ b ∷ c ∷ d ∷ []) l i (omega arith) ∙ append_assoc (take i l) (a ∷ b ∷ c ∷ d ∷ []) (drop (i + 4) l))
 
 -- four words more, after the fours that stand at the start of a list
 pub four_more : (old done : List ℕ) (k a b c d : ℕ) {l m : List ℕ} → length done ≡ 4 * k → l ≡ done ++ drop (4 * k) old

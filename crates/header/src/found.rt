@@ -8,5 +8,5 @@ pub struct Header<'a> {
     pub columns: [usize; 4],
     pub count: usize,
     pub rest: &'a [u8],
-    ghost within: { Within columns count },
+    pub ghost within: { Within columns count },
 }

@@ -39,6 +39,14 @@ impl<const N: usize> Part for &[u8; N] {
     }
 }
 
+impl Part for &[u8] {
+    ghost shown = { λ bytes. bytes.now };
+
+    fn put(self, page: &mut Page) {
+        page.put_bytes(self);
+    }
+}
+
 impl Part for u32 {
     ghost shown = { digits };
 
@@ -80,7 +88,7 @@ impl<'a> Page<'a> {
         let mut v = n;
         // Kept: by the place i: once a slice's `iter_mut` is over, a proof knows no element that was written through it.
         for i in (self.at..end).rev() {
-            self.out[i] = 48 + (v % 10) as u8;
+            self.out[i] = b'0' + (v % 10) as u8;
             v /= 10;
         }
         self.at = end;

@@ -70,6 +70,7 @@ fn put_task(table: &mut [u32], at: usize, task: Task)
 }
 
 // The n tasks of a set go to the start of a table; the last one is the long kernel where that is asked for and another stands before it.
+// Kept: `n` beside the table, which may be longer: what lies beyond the set stays, and the contract says so of all of it.
 fn draw_tasks(state: &mut u32, n: usize, asked: bool, table: &mut [u32])
     requires { (1 ≤ n) × (n ≤ 8) × (4 * n ≤ length table.old) }
     ensures moved { state.new ≡ state_after (4 * n) state.old }

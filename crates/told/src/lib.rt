@@ -19,7 +19,7 @@ pub enum Saying {
 }
 
 // The value for a blocker where there is none.
-const NOBODY: u64 = 0xffff_ffff_ffff_ffff;
+const NOBODY: u64 = u64::MAX;
 
 // A refusal.
 fn say_refusal(r: Refusal) -> Saying

@@ -118,7 +118,7 @@ pub fn tell<E: Write>(error: &mut E, words: &[u8]) {
 }
 
 // A read that failed is told on standard error, with what nothing was.
-fn tell_read<E: Write>(error: &mut E, read: usize, undone: &str) {
+pub fn tell_read<E: Write>(error: &mut E, read: usize, undone: &str) {
     let _ = writeln!(
         error,
         "tilecheck: cannot read standard input: {read} bytes were read, nothing was {undone}"

@@ -19,7 +19,7 @@ const COUNT_MOST: u32 = 99999;
 // How many sets are printed at a time, and the room for them.
 const PIECE: u32 = 100;
 
-const PIECE_BYTES: usize = 100 * TEXT_MOST;
+const PIECE_BYTES: usize = PIECE as usize * TEXT_MOST;
 
 // The number in argument i, where that fits buf.
 fn argument<A: Env>(rt: &A, i: usize, buf: &mut [u8], most: u32) -> Option<u32> {

@@ -11,10 +11,12 @@ use std::io::{Read, Write};
 use stdio::{InputError, read_input, write_output};
 use texts::TEXT_MOST;
 
-// The seed, and how many sets are drawn.
+// The seed, how many sets are drawn, and the room for their texts.
 const SEED: u32 = 1;
 
 const DRAWN: u32 = 9;
+
+const DRAWN_BYTES: usize = DRAWN as usize * TEXT_MOST;
 
 // What a text gives is printed.
 // Kept: tilecheck has this with its own words for a write that failed; here nobody is told.
@@ -27,7 +29,7 @@ fn print_output<W: Write>(stdout: &mut W, text: &[u8]) {
 // The sets drawn are printed, then what they give.
 fn print_drawn<W: Write>(stdout: &mut W) {
     let mut state = SEED;
-    let mut text = [0u8; 9 * TEXT_MOST];
+    let mut text = [0u8; DRAWN_BYTES];
     let all = texts::put_sets(&mut state, 0, DRAWN, &mut text);
     let _ = write_output(stdout, &text[..all]);
     print_output(stdout, &text[..all]);

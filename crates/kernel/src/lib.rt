@@ -1,15 +1,14 @@
 // The records after a sheet's header: of each a kernel's four numbers, by the columns that have the names.
 #![tactic(auto)]
 
-ghost use Rattle.std.specs.Prelude.{◌≡◌, length};
-ghost use Rattle.rules.specs.Numbers.{table_most};
+ghost use Rattle.std.specs.Prelude.{◌≡◌};
 ghost use Rattle.rules.specs.Sheet.{field_number};
 ghost use Rattle.kernel.specs.Kernels.{Stores, Takes, Reads};
 
 use field::Taker;
 use header::Header;
 use rules::Refusal;
-use table::TASK_MOST;
+use table::{TABLE_MOST, TASK_MOST};
 
 // A kernel: its four words, and the bytes after its record.
 #[derive(Clone, Copy)]
@@ -89,8 +88,7 @@ fn read_kernel<'a>(s: &'a [u8], header: Header<'_>) -> Option<Kernel<'a>>
 
 // All records after the header, which is record 1, up to the end of the sheet: their numbers go to the start of words; the answer is how many there
 // are, or the number of the first that is not as due.
-pub fn read_kernels(header: Header<'_>, words: &mut [u32]) -> Result<usize, Refusal>
-    requires { length words.old ≡ table_most }
+pub fn read_kernels(header: Header<'_>, words: &mut [u32; TABLE_MOST]) -> Result<usize, Refusal>
     ensures { Reads header.entry.rest.now header.entry.columns header.entry.count result words.new }
 {
     let mut rest = header.rest;

@@ -1,5 +1,6 @@
 -- `kernel::read_kernels` meets its contract: each turn is a step of `read_tasks`, whose words go behind those of the records before.
 use Rattle.std.proofs.Common.{◌≡◌, ◌+◌, ◌-◌, ◌*◌, ◌<◌, length, sym, ◌∙◌, arith}
+use borrow.Rule.Slice.PartMut.{same_len_mid}
 use Rattle.std.proofs.lemmas.Slice.{take-put_mid}
 use Rattle.std.proofs.lemmas.Grind.{common_steps}
 use Rattle.rules.proofs.RowSteps.{ahead_none, tasks_done, tasks_full, tasks_wrong, tasks_more}
@@ -7,7 +8,7 @@ use Rattle.kernel.proofs.Outcomes.{all_read, stops}
 use Rattle.kernel.proofs.read_kernels.Goals as goal
 
 pub loop-rest-init : goal.loop-rest-init
-loop-rest-init c = (omega arith, c.requires, ahead_none _)
+loop-rest-init c = (omega arith, omega arith, ahead_none _)
 
 -- a record too many
 pub returns-then-n-eq-TASK_MOST : goal.returns-then-n-eq-TASK_MOST
@@ -31,7 +32,7 @@ loop-rest-preserved c =
     let words = c.copy_from_slice.new.self in
     let four : length words ≡ 4 = omega arith in (
       omega arith,
-      omega (arith, four),
+      same_len_mid (4 * n) (4 * n + 4 - 4 * n) c.loop-rest.words words (omega (arith, four)) ∙ so_far.1,
       rw (take-put_mid (4 * n) (4 * n + 4 - 4 * n) c.loop-rest.words words (4 * (n + 1)) (omega (arith, four)) (omega arith), c.copy_from_slice.ensures.after)
           (tasks_more _ _ _ _ _ (omega arith) (omega arith) _ _ c.in-Some.ensures) ∙ so_far.2,
     )

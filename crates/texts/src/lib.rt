@@ -14,13 +14,9 @@ fn put_set(state: &mut u32, number: u32, out: &mut [u8]) -> usize
 {
     let mut table = [0u32; 32];
     // A set has at most 8 tasks, so that no draw is refused.
-    let Ok(n) = draws::draw_set_from(state, number, &mut table) else {
-        return 0;
-    };
+    let n = draws::draw_set_from(state, number, &mut table).unwrap();
     // A set drawn is a table, and there is room for its text, so that no text is refused.
-    let Ok(length) = writer::write(&table[..4 * n as usize], out) else {
-        return 0;
-    };
+    let length = writer::write(&table[..4 * n as usize], out).unwrap();
     length as usize
 }
 

@@ -22,9 +22,7 @@ fn put_sets(input: &[u8], out: &mut [u8]) -> usize
     // Kept: this loop walks the text that is left; how many sets it has is not known before, so that a `for` has no end.
     loop {
         // There is room for every set's lines, so that no report is refused.
-        let Ok(told) = report::report(number, text, &mut out[at..]) else {
-            return at;
-        };
+        let told = report::report(number, text, &mut out[at..]).unwrap();
         at += told.length as usize;
         if told.left == 0 {
             return at;

@@ -4,8 +4,8 @@ use Rattle.std.proofs.Common.{length}
 use Rattle.output.proofs.Turns.{SoFar}
 use Rattle.output.proofs.put_sets.Given as goal
 
-abbrev pub invariant-loop-told : goal.invariant-loop-told
-invariant-loop-told l = SoFar l.input l.fn.out l.out l.number l.text l.at
+abbrev pub invariant-loop-text : goal.invariant-loop-text
+invariant-loop-text l = SoFar l.input l.fn.out l.out l.number l.text l.at
 
-abbrev pub decreases-loop-told : goal.decreases-loop-told
-decreases-loop-told l = length l.text
+abbrev pub decreases-loop-text : goal.decreases-loop-text
+decreases-loop-text l = length l.text

@@ -1,3 +1,3 @@
--- Laws of the loop that counts the jobs, and of the one that writes the rows.
+-- Laws of the sum that counts the jobs, and of the loop that writes the rows.
 pub mod Counting
 pub mod Loop

@@ -16,11 +16,9 @@ use turn::Waiting;
 fn count_jobs(tasks: Tasks<'_>, plan: Plan) -> usize
     ensures { (result ≡ length (planned plan (tasks_of tasks.entry.words.now))) × (result < 2 ^ 39) }
 {
-    let mut n = 0;
-    for i in 0..tasks.count() {
-        n += count_of(plan, i, tasks.task(i)) as usize;
-    }
-    n
+    (0..tasks.count())
+        .map(|i| count_of(plan, i, tasks.task(i)) as usize)
+        .sum()
 }
 
 // Writes the rows of a plan's n jobs, four words a row, and tells of them.

@@ -1,17 +1,32 @@
--- `dispatch::count_jobs`: no task is counted at first, each turn counts the jobs of one task more, and at the end all are counted.
-use Rattle.std.proofs.Common.{ap, ◌∙◌, arith}
-use Rattle.rules.specs.Jobs.{plan_train}
-use Rattle.rules.specs.declared.Task.{Task}
-use Rattle.dispatch.proofs.Counting.{counted_none, counted_more, counted_all}
+-- `dispatch::count_jobs` sums up the jobs over the tasks. Each count is a word, so that it is its own rest by 2 ^ 32: that bounds the sum.
+use Rattle.std.proofs.Common.{ℕ, ◌%◌, ◌^◌, ◌∙◌, arith, rules, tests}
+use Rattle.std.proofs.lemmas.Iterator.{YieldsList-from_range, YieldsList-from_map}
+use Rattle.std.proofs.lemmas.Iterator.Consumers.{sum_by_from_yields_List}
+use Rattle.std.proofs.lemmas.Iterator.Adapters.{fits_from_length, at_most_from_yields_List}
+use Rattle.std.proofs.lemmas.List.FromFn.{length-range_with_len}
+use Rattle.rules.specs.Table.{task_count}
+use Rattle.dispatch.proofs.Counting.{jobs_of, counted, sum_small}
 use Rattle.dispatch.proofs.count_jobs.Goals as goal
 
-pub loop-i-init : goal.loop-i-init
-loop-i-init c = counted_none _ _ _ c.args.tasks.valid
-
-pub loop-i-preserved : goal.loop-i-preserved
-loop-i-preserved c =
-    let its_count = c.count_of.ensures ∙ ap (λ (τ : Task). (plan_train c.args.plan c.loop-i.i τ).count) c.task.ensures in
-    counted_more _ _ _ c.args.tasks.valid _ _ _ (omega arith) its_count c.count_of.type_inv c.loop-i.invariant
+pub sum-requires-clause-fits : goal.sum-requires-clause-fits
+sum-requires-clause-fits c =
+    let m = c.count.result in
+    fits_from_length _ _ 64 _ (at_most_from_yields_List (YieldsList-from_range 0 m m (cc) (omega arith)) (omega (arith, length-range_with_len 0 m, c.args.tasks.valid.most_tasks)))
+    c.map.ensures.closure (omega arith) (λ x r q k. search (rules, tests))
 
 pub returns : goal.returns
-returns c = counted_all _ _ _ c.args.tasks.valid _ _ c.loop-i.invariant (omega arith)
+returns c =
+    let w = c.args.tasks.words.now in
+    let m = task_count w in
+    let part = jobs_of c.args.plan w in
+    let rest = λ (k : ℕ). part k % 2 ^ 32 in
+    let sum =
+    sum_by_from_yields_List part _ c.map.result c.sum.result c.sum.ensures.ran
+    (YieldsList-from_map _ part (YieldsList-from_range 0 m m (cc) (omega arith)) c.map.ensures.closure (λ x r q k. search (rules, tests)))
+    ∙ counted c.args.plan w m c.args.tasks.valid
+    in
+    let few =
+    sum_by_from_yields_List rest _ c.map.result c.sum.result c.sum.ensures.ran
+    (YieldsList-from_map _ rest (YieldsList-from_range 0 m m (cc) (omega arith)) c.map.ensures.closure (λ x r q k. search (rules, tests)))
+    in
+    (sum, omega (arith, few, sum_small rest (λ i. omega arith) m 0, c.args.tasks.valid.most_tasks))

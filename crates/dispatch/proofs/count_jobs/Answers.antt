@@ -1,5 +1,6 @@
 -- `dispatch::count_jobs` sums up the jobs over the tasks. Each count is a word, so that it is its own rest by 2 ^ 32: that bounds the sum.
-use Rattle.std.proofs.Common.{ℕ, ◌%◌, ◌^◌, ◌∙◌, arith, rules, tests}
+use Rattle.std.proofs.Common.{ℕ, ◌-◌, ◌%◌, ◌^◌, refl, ap, ◌∙◌, arith, rules, tests}
+use Rattle.std.specs.declared.ops.Range.{Range}
 use Rattle.std.proofs.lemmas.Iterator.{YieldsList-from_range, YieldsList-from_map}
 use Rattle.std.proofs.lemmas.Iterator.Consumers.{sum_by_from_yields_List}
 use Rattle.std.proofs.lemmas.Iterator.Adapters.{fits_from_length, at_most_from_yields_List}
@@ -10,8 +11,9 @@ use Rattle.dispatch.proofs.count_jobs.Goals as goal
 
 pub sum-requires-clause-fits : goal.sum-requires-clause-fits
 sum-requires-clause-fits c =
-    let m = c.count.result in
-    fits_from_length _ _ 64 _ (at_most_from_yields_List (YieldsList-from_range 0 m m (cc) (omega arith)) (omega (arith, length-range_with_len 0 m, c.args.tasks.valid.most_tasks)))
+    let i = c.map.result.iter.start in
+    let n = c.map.result.iter.end - i in
+    fits_from_length _ _ 64 _ (at_most_from_yields_List (YieldsList-from_range i c.map.result.iter.end n refl refl) (omega (arith, length-range_with_len i n, ap (λ (r : Range ℕ). r.end) c.map.ensures.source, c.args.tasks.valid.most_tasks)))
     c.map.ensures.closure (omega arith) (λ x r q k. search (rules, tests))
 
 pub returns : goal.returns

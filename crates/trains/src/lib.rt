@@ -21,6 +21,7 @@ enum Reach {
 
 // The jobs of task k under a plan: in the pattern that a length names a blocker comes once, and the others come from 1 on; without one all come from
 // 0 on.
+#[inline(always)]
 fn reach_of(plan: Plan, k: usize) -> Reach
     ensures { (task : Task) → train_of result task ≡ plan_train plan k task }
 {
@@ -74,6 +75,7 @@ pub fn count_of(plan: Plan, k: usize, task: Task) -> u32
 }
 
 // How long q periods are: a wide number has room for a word more.
+#[inline(always)]
 fn periods(q: u32, period: u32) -> u64
     ensures { (result ≡ q * period) × (result < 2 ^ 64 - 2 ^ 32) }
 {
@@ -81,6 +83,7 @@ fn periods(q: u32, period: u32) -> u64
 }
 
 // When job q of a task is released, if that is before an end tick.
+#[inline(always)]
 #[tactic(auto, using(crate::proofs::Released::before_at, crate::proofs::Released::before_never))]
 fn release_before(task: Task, end: u32, q: u32) -> Option<u64>
     requires { Sound task }
@@ -91,6 +94,7 @@ fn release_before(task: Task, end: u32, q: u32) -> Option<u64>
 }
 
 // When job q of a task that comes from a tick on is released, if it is due within a length from then.
+#[inline(always)]
 #[tactic(auto, using(crate::proofs::Released::within_at, crate::proofs::Released::within_never))]
 fn release_within(task: Task, length: u32, first: u32, q: u32) -> Option<u64>
     requires { Sound task }
@@ -105,6 +109,7 @@ fn release_within(task: Task, length: u32, first: u32, q: u32) -> Option<u64>
 }
 
 // When job q of a task that comes once, at 0, is released, whatever its period.
+#[inline(always)]
 fn release_once(q: u32) -> Option<u64>
     ensures { ComesOnce q result }
 {
@@ -112,6 +117,7 @@ fn release_once(q: u32) -> Option<u64>
 }
 
 // When job q of task k is released under a plan, if its train has that job.
+#[inline(always)]
 pub fn release_of(plan: Plan, k: usize, task: Task, q: u32) -> Option<u64>
     requires { Sound task }
     ensures { Comes (plan_train plan k task) task.T q result }

@@ -31,6 +31,7 @@ impl<'a> Waiting<'a> {
     ghost use Rattle.turn.specs.Counters.{Offers, Best};
 
     // The next job of task i, if it has one left. It can start at t or at its release, whichever is later.
+    #[inline(always)]
     fn offer(&self, t: u64, i: usize) -> Option<Turn>
         requires { i < task_count self.now.tasks.words.now }
         ensures { Offers self.now.tasks.words.now self.now.plan self.now.next t i result }
@@ -58,6 +59,7 @@ impl<'a> Waiting<'a> {
 }
 
 // Of two turns, where there are two, the one that goes first.
+#[inline(always)]
 fn sooner(found: Option<Turn>, offered: Option<Turn>) -> Option<Turn>
     ensures { result ≡ sooner found offered }
 {

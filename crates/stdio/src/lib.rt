@@ -117,20 +117,28 @@ pub fn tell<E: Write>(error: &mut E, words: &[u8]) {
     let _ = error.write_all(words);
 }
 
+// A number on standard error.
+pub fn tell_count<E: Write>(error: &mut E, n: usize) {
+    let _ = write!(error, "{n}");
+}
+
 // A read that failed is told on standard error, with what nothing was.
-pub fn tell_read<E: Write>(error: &mut E, read: usize, undone: &str) {
-    let _ = writeln!(
-        error,
-        "tilecheck: cannot read standard input: {read} bytes were read, nothing was {undone}"
-    );
+// Kept: part by part, here and where a write failed: one `writeln!` would tell no more after the first part that standard error does not take.
+pub fn tell_read<E: Write>(error: &mut E, read: usize, undone: &[u8]) {
+    tell(error, b"tilecheck: cannot read standard input: ");
+    tell_count(error, read);
+    tell(error, b" bytes were read, nothing was ");
+    tell(error, undone);
+    tell(error, b"\n");
 }
 
 // A write that failed is told on standard error.
 fn tell_write<E: Write>(error: &mut E, written: usize, all: usize) {
-    let _ = writeln!(
-        error,
-        "tilecheck: cannot write standard output: {written} of {all} bytes were written"
-    );
+    tell(error, b"tilecheck: cannot write standard output: ");
+    tell_count(error, written);
+    tell(error, b" of ");
+    tell_count(error, all);
+    tell(error, b" bytes were written\n");
 }
 
 // What standard input gives: its bytes, or as many as the buffer holds; where a read failed, nothing, and that is told, with what nothing was.
@@ -148,7 +156,7 @@ pub fn input_or_tell<'a, R: Read, E: Write>(
         Ok(n) => Some(&buf[..n]),
         Err(InputError::TooLong) => Some(buf),
         Err(InputError::Failed(n)) => {
-            tell_read(error, n, undone);
+            tell_read(error, n, undone.as_bytes());
             None
         }
     }

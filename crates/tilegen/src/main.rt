@@ -8,7 +8,7 @@ ghost use Rattle.stdio.specs.Input.{Wrote, TookBeginning};
 use std::env::Env;
 use std::io::Write;
 use std::process::ExitCode;
-use stdio::{OutputError, has_argument, status_of, tell, write_output};
+use stdio::{OutputError, has_argument, status_of, tell, tell_count, write_output};
 use texts::TEXT_MOST;
 
 // The greatest seed, a 32-bit number, and the greatest count, of five digits.
@@ -52,10 +52,13 @@ fn tell_use<E: Write>(stderr: &mut E) {
 // A write that failed is told on standard error.
 // Kept: `stdio` has other words for bytes that stand alone; one function of both would be no plainer than each one's line.
 fn tell_write<E: Write>(stderr: &mut E, sets: u32, written: usize, all: usize) {
-    let _ = writeln!(
-        stderr,
-        "tilecheck: cannot write standard output: {sets} sets were written, and {written} of the {all} bytes after them"
-    );
+    tell(stderr, b"tilecheck: cannot write standard output: ");
+    tell_count(stderr, sets as usize);
+    tell(stderr, b" sets were written, and ");
+    tell_count(stderr, written);
+    tell(stderr, b" of the ");
+    tell_count(stderr, all);
+    tell(stderr, b" bytes after them\n");
 }
 
 // So many sets are printed, numbered from number on, and the state is moved on; the answer is what was written of their bytes.

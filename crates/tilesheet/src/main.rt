@@ -58,6 +58,8 @@ fn print_made<W: Write, E: Write>(
 
 // THE PROGRAM, on any streams: standard input is made into the other; one that cannot be read is told on standard error.
 // Kept: tilecheck has this with another word and step; one of both over a closure would be longer than either.
+// Never inlined: its buffers would stand on the stack of `main` then, also where that only tells of wrong use.
+#[inline(never)]
 fn exchange_input<R: Read, W: Write, E: Write>(
     stdin: &mut R,
     stdout: &mut W,

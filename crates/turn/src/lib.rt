@@ -63,8 +63,11 @@ impl<'a> Waiting<'a> {
 fn sooner(found: Option<Turn>, offered: Option<Turn>) -> Option<Turn>
     ensures { result ≡ sooner found offered }
 {
-    match (found, offered) {
-        (Some(x), Some(y)) => Some(x.min(y)),
-        _ => found.or(offered),
+    let Some(y) = offered else {
+        return found;
+    };
+    match found {
+        Some(x) if x <= y => found,
+        _ => offered,
     }
 }

@@ -1,13 +1,12 @@
--- What chains over the numbers of a table's tasks give: a sum over the tasks, and the longest wait; and that both fit.
-use mathlib.Core.Path.{◌≡◌, refl, sym, ap, ◌∙◌}
+-- What a walk over a table's tasks from the first to the last gives, and a chain over their numbers; and that what is due and waited for fits.
+use mathlib.Core.Path.{◌≡◌, refl, sym, ap}
 use mathlib.Core.Logic.{⊎_elim}
-use Prim.Native.Nat.{ℕ, zero, suc, ◌+◌, ◌-◌, ◌*◌, ◌^◌, max, ◌≤◌, ◌<◌}
+use Prim.Native.Nat.{ℕ, zero, suc, ◌+◌, ◌-◌, ◌*◌, ◌^◌, ◌≤◌, ◌<◌}
 use native.Mathlib.Nat.{div-le_self}
 use native.Mathlib.Omega.{arith}
-use mathlib.Core.List.{List, map}
+use mathlib.Core.List.{List}
 use borrow.Author.Tests.{ltb-true, leb-true}
-use Rattle.std.specs.Prelude.{unwrap_or}
-use Rattle.std.specs.List.{sum_by, fold, reduce, range_with_len}
+use Rattle.std.specs.List.{sum_by, range_with_len}
 use Rattle.std.proofs.lemmas.List.Sums.{sum_by-cons}
 use Rattle.rules.specs.Numbers.{word_most}
 use Rattle.rules.specs.Task.{tasks_of}
@@ -23,10 +22,10 @@ use Rattle.demand.proofs.Bounds.{times_small}
 
 -- a total on the way from the first task to the last: that of the tasks from number i on, by that of those after it
 module _ {total : List Task → ℕ} {part : Task → ℕ} {join : ℕ → ℕ → ℕ} (S : Sums total part join) (w : List ℕ) where
-  at_end : (i : ℕ) → i + 0 ≡ task_count w → 0 ≡ total (tasks_left w i)
+  pub at_end : (i : ℕ) → i + 0 ≡ task_count w → 0 ≡ total (tasks_left w i)
   at_end i e = let all : i ≡ task_count w = omega arith in rw all (total_none S w)
 
-  at_one : (i : ℕ) → i < task_count w → total (tasks_left w i) ≡ join (total (tasks_left w (i + 1))) (part (task_in w i))
+  pub at_one : (i : ℕ) → i < task_count w → total (tasks_left w i) ≡ join (total (tasks_left w (i + 1))) (part (task_in w i))
   at_one i h =
       let here : i + 1 - 1 ≡ i = omega arith in
       sym (rw here at (total_more S w (i + 1) (omega arith) (omega arith) (task_in w (i + 1 - 1)) refl _ _ refl refl))
@@ -58,22 +57,7 @@ total_due_small w v L small = omega (arith, left (task_count w) 0 (omega arith),
     left zero i e = omega (arith, at_end (total_due_sums L) w i e)
     left (suc n) i e = omega (arith, left n (i + 1) (omega arith), at_one (total_due_sums L) w i (omega arith), due_small w v L i small (omega arith))
 
--- the longest wait
-longest_left : (w : List ℕ) (L n i m : ℕ) → i + n ≡ task_count w
-    → fold (λ a x. max a x) m (map (λ k. wait L (task_in w k)) (range_with_len i n)) ≡ max m (longest_wait L (tasks_left w i))
-longest_left w L zero i m e = omega (arith, at_end (longest_wait_sums L) w i e)
-longest_left w L (suc n) i m e =
-    omega (arith, longest_left w L n (i + 1) (max m (wait L (task_in w i))) (omega arith), at_one (longest_wait_sums L) w i (omega arith))
-
-pub longest : (w : List ℕ) → ValidTable w → (L : ℕ)
-    → unwrap_or (reduce max (map (λ k. wait L (task_in w k)) (range_with_len 0 (task_count w)))) 0 ≡ longest_wait L (tasks_of w)
-longest w v L = from (task_count w) (omega arith) ∙ ap (longest_wait L) (left_all w v 0 (omega arith))
-  where
-    from : (n : ℕ) → 0 + n ≡ task_count w
-        → unwrap_or (reduce max (map (λ k. wait L (task_in w k)) (range_with_len 0 n))) 0 ≡ longest_wait L (tasks_left w 0)
-    from zero e = at_end (longest_wait_sums L) w 0 e
-    from (suc n) e = omega (arith, longest_left w L n 1 (wait L (task_in w 0)) (omega arith), at_one (longest_wait_sums L) w 0 (omega arith))
-
+-- what is waited for fits
 wait_small : (w : List ℕ) → ValidTable w → (L i : ℕ) → i < task_count w → wait L (task_in w i) ≤ word_most
 wait_small w v L i h =
     let τ = task_in w i in

@@ -30,24 +30,22 @@ fn wait_of(task: Task, length: u32) -> u64
     }
 }
 
-// What is due within a length.
-// Kept: three chains, each one definition's words; one over a closure would have to say by its calls what it adds up.
-fn due_at(tasks: Tasks, length: u32) -> u64
-    ensures { (result ≡ total_due length (tasks_of tasks.entry.words.now)) × (result ≤ 2 ^ 55) }
+// What is due and what is waited for at a length, of one walk over the tasks.
+// Kept: a `for`, and no chain: two chains are two walks at each length, and one over a closure would have to say by its calls what it adds up. The
+// first task stands before it: a table has one, and a look at one alone then takes no walk.
+fn demand_at(tasks: Tasks, length: u32) -> (u64, u64)
+    ensures due { (result.0 ≡ total_due length (tasks_of tasks.entry.words.now)) × (result.0 ≤ 2 ^ 55) }
+    ensures wait { (result.1 ≡ longest_wait length (tasks_of tasks.entry.words.now)) × (result.1 < 2 ^ 32) }
 {
-    (0..tasks.count())
-        .map(|i| due_of(tasks.task(i), length))
-        .sum()
-}
-
-// What is waited for: the longest wait.
-fn wait_at(tasks: Tasks, length: u32) -> u64
-    ensures { (result ≡ longest_wait length (tasks_of tasks.entry.words.now)) × (result < 2 ^ 32) }
-{
-    (0..tasks.count())
-        .map(|i| wait_of(tasks.task(i), length))
-        .max()
-        .unwrap_or(0)
+    let first = tasks.task(0);
+    let mut due = due_of(first, length);
+    let mut wait = wait_of(first, length);
+    for i in 1..tasks.count() {
+        let task = tasks.task(i);
+        due += due_of(task, length);
+        wait = wait.max(wait_of(task, length));
+    }
+    (due, wait)
 }
 
 // By how much a length fails: its excess, or 0 where it passes.
@@ -55,22 +53,32 @@ fn wait_at(tasks: Tasks, length: u32) -> u64
 pub fn excess_at(tasks: Tasks, length: u32) -> u64
     ensures { result ≡ fails_by length (tasks_of tasks.entry.words.now) }
 {
-    let due = due_at(tasks, length);
+    let (due, wait) = demand_at(tasks, length);
     if due == 0 {
         return 0;
     }
-    (due + wait_at(tasks, length)).saturating_sub(u64::from(length))
+    (due + wait).saturating_sub(u64::from(length))
 }
 
-// The blocker of a length: the first task that waits longest.
+// The blocker of a length: the first task that waits longest. From the last task to the first, so that of equals the lowest stays.
+// Kept: a `for`, and no `find`: that looks for the longest wait, so that a walk has to find it before. And a number beside it, which is nobody's where
+// most is 0: an Option held from task to task took a third more of this walk.
 pub fn blocker_at(tasks: Tasks, length: u32) -> Option<u32>
     ensures { result ≡ blocker length (tasks_of tasks.entry.words.now) }
 {
-    let most = wait_at(tasks, length);
+    let mut most: u64 = 0;
+    let mut first: u32 = 0;
+    for i in (0..tasks.count()).rev() {
+        let wait = wait_of(tasks.task(i), length);
+        if most <= wait {
+            most = wait;
+            first = i as u32;
+        }
+    }
     if most == 0 {
         return None;
     }
-    (0..tasks.count() as u32).find(|i| wait_of(tasks.task(*i as usize), length) == most)
+    Some(first)
 }
 
 // C × (t / T rounded up).

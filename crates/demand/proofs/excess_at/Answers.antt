@@ -6,10 +6,10 @@ use Rattle.demand.proofs.excess_at.Goals as goal
 
 -- nothing is due
 pub returns-then-due-eq0 : goal.returns-then-due-eq0
-returns-then-due-eq0 c = sym (nothing_due _ _ (omega (arith, c.due_at-due.ensures.0)))
+returns-then-due-eq0 c = sym (nothing_due _ _ (omega (arith, c.demand_at-due.ensures.due.0)))
 
 -- something is
 pub returns : goal.returns
 returns c =
-    let sum = something_due c.args.length (tasks_of c.args.tasks.words.now) (omega (arith, c.due_at-due.ensures.0)) in
-    omega (arith, c.due_at-due.ensures.0, c.wait_at.ensures.0, sum)
+    let sum = something_due c.args.length (tasks_of c.args.tasks.words.now) (omega (arith, c.demand_at-due.ensures.due.0)) in
+    omega (arith, c.demand_at-due.ensures.due.0, c.demand_at-due.ensures.wait.0, sum)

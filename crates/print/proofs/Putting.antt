@@ -1,5 +1,5 @@
 -- Bytes put at a place of a list: one after another, and a number's digits from the last; and that a call has one outcome.
-use mathlib.Core.Path.{◌≡◌, sym, ap, ap₂, ◌∙◌}
+use mathlib.Core.Path.{◌≡◌, refl, sym, ap, ap₂, ◌∙◌}
 use Prim.Native.Nat.{ℕ, zero, suc, ◌+◌, ◌-◌, ◌/◌, ◌%◌, ◌≤◌, ◌<◌}
 use native.Mathlib.Omega.{arith}
 use mathlib.Core.List.{List, [], ◌∷◌, ◌++◌, append_assoc}
@@ -33,6 +33,12 @@ put_last l at vs b k e h =
     let e : suc n ≡ at + length (vs ++ (b ∷ [])) = omega (arith, length-append vs (b ∷ [])) in
     ap₂ (λ (x y : List ℕ). x ++ (vs ++ y)) (take-set-le at l n b (omega arith)) (ap (λ (j : ℕ). drop j (set l n b)) m ∙ d ∙ ap (λ (k : ℕ). b ∷ drop k l) e)
     ∙ ap (λ (x : List ℕ). take at l ++ x) (sym (append_assoc vs (b ∷ []) (drop (at + length (vs ++ (b ∷ []))) l)))
+
+-- one byte
+pub put_one : (l : List ℕ) (at b : ℕ) → at < length l → set l at b ≡ put l at (b ∷ [])
+put_one l at b h =
+    let e : at ≡ at + 0 = omega arith in
+    sym (put_nil (set l at b) at) ∙ ap (λ (k : ℕ). put (set l k b) at []) e ∙ put_last l at [] b 0 refl (omega arith)
 
 module _ (l : List ℕ) (at : ℕ) (vs : List ℕ) (h : at + length vs ≤ length l) where
   head_length : length (take at l ++ vs) ≡ at + length vs

@@ -4,11 +4,21 @@
 ghost use Rattle.std.specs.Prelude.{◌≡◌, ◌+◌, ◌≤◌, length};
 ghost use Rattle.rules.specs.Text.{digits, line};
 
-// How many digits a number has; 0 has as many as 1.
+// The numbers at which a digit more is needed.
+const POWERS: [u32; 9] = [
+    10, 100, 1000, 10000, 100000, 1000000, 10000000, 100000000, 1000000000,
+];
+
+// How many digits a number has.
+// By comparisons, the least power first, since most numbers have few digits: `ilog10` takes longer for them.
 pub fn width(n: u32) -> usize
     ensures { (result ≡ length (digits n)) × (result ≤ 10) }
 {
-    n.max(1).ilog10() as usize + 1
+    POWERS
+        .iter()
+        .position(|power| n < *power)
+        .unwrap_or(POWERS.len())
+        + 1
 }
 
 // A lent buffer, and the place from which bytes are put next.
@@ -84,6 +94,12 @@ impl<'a> Page<'a> {
         requires { Fits self.old (digits n) }
         ensures { Adds self.old (digits n) self.new }
     {
+        // One digit, as many words have, is put without a division.
+        if n < 10 {
+            self.out[self.at] = b'0' + n as u8;
+            self.at += 1;
+            return;
+        }
         let end = self.at + width(n);
         let mut v = n;
         // Kept: by the place i: once a slice's `iter_mut` is over, a proof knows no element that was written through it.

@@ -46,11 +46,13 @@ impl Form for Sheet {
         if which == 3 { b"\r\n" } else { b"," }
     }
 
+    // The number before the choice, so that the loop over its digits stands once: `put_phrase` in each arm took longer.
     fn put_word(page: &mut Page, which: usize, n: u32) {
+        page.put_number(n);
         if which == 3 {
-            page.put_phrase(b"", n, b"\r\n");
+            page.put_bytes(b"\r\n");
         } else {
-            page.put_phrase(b"", n, b",");
+            page.put_bytes(b",");
         }
     }
 

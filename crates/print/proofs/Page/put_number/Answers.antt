@@ -1,10 +1,20 @@
--- Each turn puts the last of the digits that are left; at the end none is left.
+-- One digit is one byte. Of more, each turn puts the last of the digits that are left; at the end none is left.
 use Rattle.std.proofs.Common.{◌≡◌, ◌∙◌, ◌+◌, ◌-◌, ℕ, ap, arith, length, length-set, refl, sym}
 use Rattle.rules.specs.Text.{digits}
-use Rattle.rules.proofs.Digits.{lasts, digits_lasts}
+use Rattle.rules.proofs.Digits.{lasts, digits_lasts, digits_least, digits_one}
 use Rattle.print.specs.Place.{put}
-use Rattle.print.proofs.Putting.{put_none, put_digit_at}
+use Rattle.print.proofs.Putting.{put_none, put_one, put_digit_at}
 use Rattle.print.proofs.Page.put_number.Goals as goal
+
+pub bounds-self-self : goal.bounds-self-self
+bounds-self-self c = omega (arith, c.requires, digits_least c.args.n)
+
+pub returns-then-n-lt10 : goal.returns-then-n-lt10
+returns-then-n-lt10 c =
+    let self = c.args.self.now in
+    let one = digits_one c.args.n c.if-n-lt10.true in
+    let fits = rw one at c.requires in
+    rw one (record { fits = fits; same = refl; puts = record { says = refl; leaves = put_one self.out.now self.at (48 + c.args.n) (omega arith) } })
 
 pub loop-i-init : goal.loop-i-init
 loop-i-init c =

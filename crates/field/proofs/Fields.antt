@@ -4,7 +4,7 @@ use Prim.Native.Nat.{ℕ, zero, suc, ◌+◌, ◌-◌, ◌≤◌, ◌<◌}
 use native.Mathlib.Numerals.{add-one}
 use native.Mathlib.Omega.{arith}
 use mathlib.Core.List.{List, [], ◌∷◌}
-use mathlib.Core.Bool.{Bool, true, false, not}
+use mathlib.Core.Bool.{Bool, true, false}
 use lib.ListN.{length, take, drop, get_or}
 use Rattle.std.specs.Prelude.{Option, Some, None, MatchOption, cond}
 use Rattle.std.specs.Borrow.{Bor}
@@ -12,6 +12,7 @@ use Rattle.std.specs.List.{position, position_or_len}
 use Rattle.std.specs.Option.{unwrap_or, option_or}
 use borrow.Author.Tests.{ltb-true, ltb-false}
 use lib.Dec.{ltb}
+use Rattle.std.proofs.lemmas.List.{drop_more}
 use Rattle.std.proofs.lemmas.List.Sums.{fails_before_first, passes_at_first}
 use Rattle.rules.specs.Text.{after_key}
 use Rattle.rules.specs.Sheet.{crlf, mark, content, read_plain, read_quoted, read_field, after_end, more, last, no_step, last_of, next_field}
@@ -52,11 +53,6 @@ module _ (s : List ℕ) where
       by_test true e = let h : position_or_len mark s < length s = ltb-true (position_or_len mark s) (length s) e in omega arith
       by_test false e = omega arith
 
--- of a quoted field the bytes before i are passed; or all but the last of them are, and that one is a quote, which may be half of a doubled one
-abbrev pub Walked : List ℕ → Bool → ℕ → Type 0
-Walked s false i = Passed read_quoted s i
-Walked s true i = (k : ℕ) × (i ≡ k + 1) × (k < length s) × Passed read_quoted s k × (get_or s k 0 ≡ 34)
-
 -- bytes that begin with one byte, or do not
 module _ (b : ℕ) (s : List ℕ) where
   begins : (rest : List ℕ) → after_key (b ∷ []) s ≡ Some rest → (0 < length s) × (get_or s 0 0 ≡ b) × (drop 1 s ≡ rest)
@@ -76,29 +72,75 @@ module _ (s : List ℕ) where
       plain : read_field s ≡ read_plain s
       plain = split (length s) 0 (λ h. field_none s (omega arith)) (λ h. field_plain s h (other 34 s e h))
 
--- one byte more of a quoted field
-module _ (s : List ℕ) (i : ℕ) (h : i < length s) where
-  pub walked_quote : (half : Bool) → Walked s half i → get_or s i 0 ≡ 34 → Walked s (not half) (i + 1)
-  walked_quote false w e = (i, refl, h, w, e)
-  walked_quote true w e = rw w.1 (quoted_twice s w.0 w.3 w.2 w.4 (omega (arith, w.1)) (rw (w.1) at e))
+-- a quoted field of which some bytes are passed, and the others left
+pub record Left (s rest : List ℕ) : Type 0 where
+  pub passed : ℕ
+  pub counts : passed + length rest ≡ length s
+  pub stands : drop passed s ≡ rest
+  pub reads : Passed read_quoted s passed
 
-  pub walked_other : Walked s false i → (get_or s i 0 ≡ 34 → ⊥) → Walked s false (i + 1)
-  walked_other w n = quoted_step s i w h n
+module _ (s : List ℕ) where
+  pub all_left : Left s s
+  all_left = record { passed = 0; counts = omega arith; stands = refl; reads = passed_none read_quoted s }
 
-  pub walked_closed : Walked s true i → (get_or s i 0 ≡ 34 → ⊥) → Quoted s (Some (i - 1))
-  walked_closed w n =
-      let k : i - 1 ≡ w.0 = omega (arith, w.1) in
-      rw k (w.2, quoted_closed s w.0 w.3 w.2 w.4 (omega (arith, w.1)) (λ e. n (rw w.1 e)))
+  pub left_open : {rest : List ℕ} → Left s rest → length rest ≡ 0 → Quoted s None
+  left_open l e = quoted_open s l.passed l.reads (omega (arith, l.counts))
 
--- no byte is left of it
-module _ (s : List ℕ) (i : ℕ) (h : length s ≤ i) where
-  pub walked_open : Walked s false i → Quoted s None
-  walked_open w = quoted_open s i w h
+  length_passed : {rest : List ℕ} (l : Left s rest) → length s - length rest ≡ l.passed
+  length_passed l = omega (arith, l.counts)
 
-  pub walked_last : i ≤ length s → Walked s true i → Quoted s (Some (length s - 1))
-  walked_last l w =
-      let k : length s - 1 ≡ w.0 = omega (arith, w.1) in
-      rw k (w.2, quoted_last s w.0 w.3 w.2 w.4 (omega (arith, w.1)))
+  -- by its next byte
+  module _ {rest : List ℕ} (l : Left s rest) {b : ℕ} {after : List ℕ} (e : rest ≡ b ∷ after) where
+    within : l.passed < length s
+    within = omega (arith, l.counts, ap length e)
+
+    opened : get_or s l.passed 0 ∷ drop (l.passed + 1) s ≡ b ∷ after
+    opened = sym (drop_more s l.passed 0 within) ∙ l.stands ∙ e
+
+    next_is : get_or s l.passed 0 ≡ b
+    next_is = let f = opened in cc
+
+    after_is : drop (l.passed + 1) s ≡ after
+    after_is = let f = opened in cc
+
+    pub left_other : (b ≡ 34 → ⊥) → Left s after
+    left_other n = record {
+      passed = l.passed + 1;
+      counts = omega (arith, l.counts, ap length e);
+      stands = after_is;
+      reads = quoted_step s l.passed l.reads within (λ q. n (sym next_is ∙ q));
+    }
+
+    -- a quote
+    module _ (q : b ≡ 34) where
+      quote : get_or s l.passed 0 ≡ 34
+      quote = next_is ∙ q
+
+      pub left_last : length after ≡ 0 → Quoted s (Some (length s - length rest))
+      left_last none = rw (length_passed l) (within, quoted_last s l.passed l.reads within quote (omega (arith, l.counts, ap length e)))
+
+      -- and the byte after it
+      module _ {c : ℕ} {further : List ℕ} (f : after ≡ c ∷ further) where
+        second : l.passed + 1 < length s
+        second = omega (arith, l.counts, ap length e, ap length f)
+
+        opened_on : get_or s (l.passed + 1) 0 ∷ drop (l.passed + 1 + 1) s ≡ c ∷ further
+        opened_on = sym (drop_more s (l.passed + 1) 0 second) ∙ after_is ∙ f
+
+        second_is : get_or s (l.passed + 1) 0 ≡ c
+        second_is = let g = opened_on in cc
+
+        pub left_closed : (c ≡ 34 → ⊥) → Quoted s (Some (length s - length rest))
+        left_closed n = rw (length_passed l) (within, quoted_closed s l.passed l.reads within quote second (λ x. n (sym second_is ∙ x)))
+
+        pub left_twice : c ≡ 34 → Left s further
+        left_twice x =
+            record {
+              passed = l.passed + 1 + 1;
+              counts = omega (arith, l.counts, ap length e, ap length f);
+              stands = let g = opened_on in cc;
+              reads = quoted_twice s l.passed l.reads within quote second (second_is ∙ x);
+            }
 
 -- the end of a record by its first bytes
 module _ (s : List ℕ) (some : length s ≡ 0 → ⊥) where

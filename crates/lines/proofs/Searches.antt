@@ -1,24 +1,30 @@
 -- What the calls on one line lean on, beside the laws of the definitions that read; and that each promise leaves one outcome.
-use Rattle.std.proofs.Common.{◌≡◌, ◌≢◌, ℕ, ◌+◌, ◌-◌, ◌*◌, ◌^◌, ◌<◌, List, [], ◌∷◌, ◌++◌, Option, Some, None, MatchOption, add-one, refl, arith}
-use Rattle.std.specs.Borrow.{Bor}
+use Rattle.std.proofs.Common.{◌≡◌, ℕ, ◌+◌, ◌-◌, ◌*◌, ◌^◌, ◌<◌, List, [], ◌∷◌, length, drop, get_or, Some, None, add-one, refl, arith}
+use Rattle.std.proofs.lemmas.List.{drop_more, nil_from_length}
+use borrow.Author.Tests.{eq-eqb, ne_eqb}
 use Rattle.rules.specs.Text.{got, bad, after_key, more_digits, line_end}
 use Rattle.rules.proofs.Booleans.{impossible}
 use Rattle.rules.proofs.LineTrips.{key_there, key_back}
 use Rattle.rules.proofs.ReadSteps.{more_other, more_step, end_none, end_wrong, end_right}
-use Rattle.lines.specs.Line.{Skips, NoDigit, IsValueOf, SkipsOne, FindsOne}
+use Rattle.lines.specs.Line.{NoDigit, IsValueOf, SkipsOne, FindsOne}
 
--- a key, by the lists that begin with it
-module _ (key s : List ℕ) where
-  key_not_there : ((rest : List ℕ) → s ≢ key ++ rest) → after_key key s ≡ None
-  key_not_there n = by_search (after_key key s) refl
-    where
-      by_search : (o : Option (List ℕ)) → after_key key s ≡ o → after_key key s ≡ None
-      by_search None e = e
-      by_search (Some a) e = absurd (n a (key_back key s a e))
+-- a key of which i bytes are passed, by the next byte
+module _ (key : List ℕ) (i : ℕ) (h : i < length key) where
+  key_left : drop i key ≡ get_or key i 0 ∷ drop (i + 1) key
+  key_left = drop_more key i 0 h
 
-  pub skips : (answer : Option (Bor (List ℕ))) → MatchOption answer ((rest : List ℕ) → s ≢ key ++ rest) (λ x. s ≡ key ++ x.now) → Skips key s answer
-  skips None n = key_not_there n
-  skips (Some x) e = rw e (key_there key x.now)
+  pub key_none : (s : List ℕ) → length s ≡ 0 → after_key (drop i key) s ≡ None
+  unfolding after_key
+  key_none s e = rw (key_left, nil_from_length s e)
+
+  module _ {s : List ℕ} {b : ℕ} {rest : List ℕ} (e : s ≡ b ∷ rest) where
+    pub key_other : (b ≡ get_or key i 0 → ⊥) → after_key (drop i key) s ≡ None
+    unfolding after_key
+    key_other n = rw (key_left, e, ne_eqb b (get_or key i 0) n)
+
+    pub key_next : b ≡ get_or key i 0 → after_key (drop i key) s ≡ after_key (drop (i + 1) key) rest
+    unfolding after_key
+    key_next same = rw (key_left, e, eq-eqb b (get_or key i 0) same)
 
 -- byte 10 after a number, as a key
 pub no_end : (v : ℕ) (t : List ℕ) → after_key (10 ∷ []) t ≡ None → line_end (got v t) ≡ bad

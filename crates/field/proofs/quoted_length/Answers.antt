@@ -1,27 +1,29 @@
--- `field::quoted_length` meets its contract: the loop ends at a byte after a quote that it does not double, which closed the field, or where no byte
--- is left; there the last byte may be the quote that closes it.
+-- `field::quoted_length` meets its contract: the loop ends at a quote that none doubles, which closes the field, or where no byte is left.
 use Rattle.std.proofs.Common.{arith}
-use Rattle.rules.specs.Sheet.{read_quoted}
-use Rattle.rules.proofs.FieldSteps.{passed_none}
-use Rattle.field.proofs.Fields.{walked_quote, walked_other, walked_closed, walked_open, walked_last}
+use Rattle.field.proofs.Fields.{all_left, left_open, left_other, left_last, left_closed, left_twice}
 use Rattle.field.proofs.quoted_length.Goals as goal
-use Rattle.field.proofs.quoted_length.Goals.{then-b-eq34, else-b-eq34+else-half}
 
-pub loop-i-init : goal.loop-i-init
-loop-i-init c = passed_none read_quoted _
+pub loop-b-init : goal.loop-b-init
+loop-b-init c = all_left _
 
-pub returns-then-half : goal.returns-then-half
-returns-then-half c = walked_closed _ _ c.loop-i-test.true (rw c.if-half.true at c.loop-i.invariant) c.if-b-eq34.false
+-- a quote is the last byte
+pub returns-in_default-split_first : goal.returns-in_default-split_first
+returns-in_default-split_first c = left_last _ c.loop-b.invariant c.in-Some.ensures.cases.0 c.if-b-eq34.true c.in_default-split_first.ensures.cases
 
-pub loop-i-preserved : goal.loop-i-preserved
-loop-i-preserved c =
-    elim c.if-b-eq34.branch [
-      | then-b-eq34 w ↦ rw w.half-is (walked_quote _ _ c.loop-i-test.true c.loop-i.half c.loop-i.invariant w.if-b-eq34.true)
-      | else-b-eq34+else-half w ↦ rw (w.half-is, w.if-half.false) (walked_other _ _ c.loop-i-test.true (rw w.if-half.false at c.loop-i.invariant) w.if-b-eq34.false)
-    ]
+-- another byte follows a quote
+pub returns-then-next-b : goal.returns-then-next-b
+returns-then-next-b c =
+    left_closed _ c.loop-b.invariant c.in-Some.ensures.cases.0 c.if-b-eq34.true c.in-Some-split_first.ensures.cases.0 (λ x. omega (arith, x, c.if-b-eq34.true, c.if-next-b.true))
 
-pub returns-then-half-2 : goal.returns-then-half-2
-returns-then-half-2 c = walked_last _ _ (omega arith) (omega arith) (rw c.if-half-2.true at c.loop-i.invariant)
+-- two quotes are passed
+pub loop-b-preserved-else-next-b : goal.loop-b-preserved-else-next-b
+loop-b-preserved-else-next-b c =
+    left_twice _ c.loop-b.invariant c.in-Some.ensures.cases.0 c.if-b-eq34.true c.in-Some-split_first.ensures.cases.0 (omega (arith, c.if-b-eq34.true, c.if-next-b.false))
 
-pub returns-else-half-2 : goal.returns-else-half-2
-returns-else-half-2 c = walked_open _ _ (omega arith) (rw c.if-half-2.false at c.loop-i.invariant)
+-- another byte is
+pub loop-b-preserved : goal.loop-b-preserved
+loop-b-preserved c = left_other _ c.loop-b.invariant c.in-Some.ensures.cases.0 c.if-b-eq34.false
+
+-- no byte is left
+pub returns : goal.returns
+returns c = left_open _ c.loop-b.invariant c.in_default.ensures.cases

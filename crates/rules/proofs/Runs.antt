@@ -45,6 +45,11 @@ distinct_run js d = rows_run (length js) 0 js d refl
 pub dispatch_run : (ts : List Task) → AllSound ts → (js : List Job) → Legal ts js → Run 0 js (dispatch js)
 dispatch_run ts sound js l = distinct_run js (legal_distinct ts sound js l)
 
+-- a run has as many rows as jobs
+pub run_length : {t : ℕ} {js : List Job} {ws : List Row} → Run t js ws → length ws ≡ length js
+run_length done = refl
+run_length (step s e P k r) = let h = taken_length k in let ih = run_length r in omega arith
+
 -- every job has a row
 pub run_covers : {t : ℕ} {js : List Job} {ws : List Row} → Run t js ws
     → (i : Job) → Memᴰ i js → (w : Row) × Memᴰ w ws × (w.job ≡ i)

@@ -112,6 +112,15 @@ tasks_from_law w (suc n) k e =
 pub tasks_are : (w : List ℕ) (m : ℕ) → length w ≡ 4 * m → tasks_of w ≡ tasks_from w m 0
 tasks_are w m e = tasks_from_law w m 0 (omega arith)
 
+length_tasks_from : (w : List ℕ) (n k : ℕ) → length (tasks_from w n k) ≡ n
+unfolding tasks_from
+length_tasks_from w zero k = refl
+length_tasks_from w (suc n) k = ap suc (length_tasks_from w n (suc k))
+
+-- a table has a task for four words
+pub length_tasks : (w : List ℕ) (m : ℕ) → length w ≡ 4 * m → length (tasks_of w) ≡ m
+length_tasks w m e = ap (λ (l : List Task). length l) (tasks_are w m e) ∙ length_tasks_from w m 0
+
 task_at_from : (w : List ℕ) (n k i : ℕ) → i < n → task_at (tasks_from w n k) i ≡ task_in w (k + i)
 unfolding task_at tasks_from
 task_at_from w zero k i h = absurd (omega arith)

@@ -2,6 +2,7 @@
 use mathlib.Core.Path.{◌≡◌, refl, sym, ap, subst, ◌∙◌}
 use Prim.Native.Nat.{ℕ, suc, ◌+◌, ◌-◌, ◌≤◌, ◌<◌}
 use native.Mathlib.Omega.{arith}
+use mathlib.Core.Logic.{inl, inr}
 use mathlib.Core.List.{List, [], ◌∷◌, ◌++◌}
 use lib.ListN.{get_or}
 use Rattle.rules.specs.Dispatch.{Job, pick, ready}
@@ -13,7 +14,7 @@ use Rattle.rules.proofs.Booleans.{split}
 use Rattle.rules.proofs.Order.{ahead_first, goes_before, sooner_yes, sooner_no}
 use Rattle.rules.proofs.Choosing.{pick_come, pick_not, pick_one, pick_nobody, not_yet, ready_after, ready_one, ready_more, pick_train, ready_train, train_none}
 use Rattle.turn.specs.declared.Turn.{Turn}
-use Rattle.turn.specs.Counters.{train_at, release_at, job_at, jobs_at, rest_from, goes_first, sooner, Offered, Offers, Chosen, Best}
+use Rattle.turn.specs.Counters.{train_at, release_at, job_at, jobs_at, rest_from, last_turn, goes_first, first_of, sooner, Offered, Offers, Chosen, Best, Held}
 use Rattle.std.specs.Prelude.{Option, Some, None, Bool, true, false, if◌then◌else◌}
 use Rattle.std.proofs.lemmas.Bool.Decides.{nat_tests}
 
@@ -147,3 +148,19 @@ module _ (w : List ℕ) (p : Plan) (nx : List ℕ) (t m : ℕ) where
   best_more j o v z h k b O e =
       let same : j ≡ j - 1 + 1 = omega arith in
       rw e (with_offer (j - 1) o v (omega arith) (subst (λ (x : ℕ). Best w p nx t m x o) same b) O)
+
+  -- WHAT THE WALK HOLDS
+  -- no task is looked at yet
+  pub held_none : (i : ℕ) → i ≡ m → Held w p nx t m i last_turn
+  held_none i h = inl (refl, best_none i h)
+
+  -- one more is looked at, which offers none or a turn
+  module _ (j : ℕ) (x : Turn) (h : 0 < j) (k : j ≤ m) where
+    pub held_still : Held w p nx t m j x → Offers w p nx t (j - 1) None → Held w p nx t m (j - 1) x
+    held_still (inl (e, r)) O = inl (e, best_more j None None None h k r O refl)
+    held_still (inr ch) O = inr (best_more j (Some x) None (Some x) h k ch O refl)
+
+    pub held_more : (y z : Turn) → Held w p nx t m j x → Offers w p nx t (j - 1) (Some y) → z ≡ first_of x y → (x ≡ last_turn → z ≡ y)
+        → Held w p nx t m (j - 1) z
+    held_more y z (inl (e, r)) O f a = inr (best_more j None (Some y) (Some z) h k r O (ap Some (a e)))
+    held_more y z (inr ch) O f a = inr (best_more j (Some x) (Some y) (Some z) h k ch O (ap Some f))

@@ -1,5 +1,5 @@
 -- The number of the next job of each task, and what it stands for: the jobs that are not started, and the one that starts next.
-use Rattle.std.specs.Prelude.{◌≡◌, ℕ, zero, suc, ◌+◌, ◌-◌, ◌*◌, ◌^◌, max, ◌≤◌, ◌<◌, List, [], ◌++◌, get_or, replicate, Option, Some, None, if◌then◌else◌, MatchOption, Bool, ◌&&◌, ◌||◌, ltb, eqb}
+use Rattle.std.specs.Prelude.{◌≡◌, ℕ, zero, suc, ◌+◌, ◌-◌, ◌*◌, ◌^◌, max, ◌≤◌, ◌<◌, List, [], ◌++◌, get_or, replicate, Option, Some, None, if◌then◌else◌, ◌⊎◌, MatchOption, Bool, ◌&&◌, ◌||◌, ltb, eqb}
 use Rattle.rules.specs.Numbers.{task_most}
 use Rattle.rules.specs.Dispatch.{Job, pick, ready}
 use Rattle.rules.specs.Jobs.{Train, train, plan_train}
@@ -43,11 +43,19 @@ none_started = replicate task_most 0
 abbrev pub goes_first : Turn → Turn → Bool
 goes_first x y = ltb x.start y.start || (eqb x.start y.start && (ltb x.due y.due || (eqb x.due y.due && ltb x.task y.task)))
 
+-- the turn of no task: each other goes before it
+abbrev pub last_turn : Turn
+last_turn = record { start = 2 ^ 64 - 1; due = 2 ^ 64 - 1; task = 2 ^ 64 - 1 }
+
+-- of two turns the one that goes first
+abbrev pub first_of : Turn → Turn → Turn
+first_of x y = if goes_first y x then y else x
+
 -- of two turns, where there are two, the one that goes first
 abbrev pub sooner : Option Turn → Option Turn → Option Turn
 sooner None o = o
 sooner (Some x) None = Some x
-sooner (Some x) (Some y) = Some (if goes_first y x then y else x)
+sooner (Some x) (Some y) = Some (first_of x y)
 
 -- the next job of task i, as it could start with the tile free from tick t on
 pub record Offered (w : List ℕ) (p : Plan) (nx : List ℕ) (t i : ℕ) (x : Turn) : Type 0 where
@@ -76,3 +84,7 @@ pub record Chosen (w : List ℕ) (p : Plan) (nx : List ℕ) (t m i : ℕ) (x : T
 -- what the walk over the tasks has found from i on: no job, where none is left, or the next one
 abbrev pub Best : List ℕ → Plan → List ℕ → ℕ → ℕ → ℕ → Option Turn → Type 0
 Best w p nx t m i found = MatchOption found (rest_from w p nx (m - i) i ≡ []) (λ x. Chosen w p nx t m i x)
+
+-- what the walk holds for that: the turn of no task, where no job is left, or that of the next one
+abbrev pub Held : List ℕ → Plan → List ℕ → ℕ → ℕ → ℕ → Turn → Type 0
+Held w p nx t m i x = ((x ≡ last_turn) × (rest_from w p nx (m - i) i ≡ [])) ⊎ Chosen w p nx t m i x
